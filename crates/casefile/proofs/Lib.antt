@@ -1,0 +1,4 @@
+pub mod Passing
+pub mod Serving
+pub mod Short
+pub mod Writing

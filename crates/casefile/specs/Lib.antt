@@ -1,0 +1,5 @@
+pub mod Buffers
+pub mod Newlines
+pub mod Faults
+pub mod Fields
+pub mod Sheets

@@ -1,0 +1,23 @@
+-- The numbers of the root formulas, each once. Assumes nothing.
+use mathlib.Core.Bool.{Bool, true, false, not, _&&_, _||_, cond}
+use mathlib.Core.List.{List, [], _∷_, _++_, map}
+use Prim.Native.Nat.{ℕ}
+use lib.Dec.{eqb}
+use Rattle.tables.specs.declared.number.Number.{Number}
+
+abbrev pub contains : List ℕ → ℕ → Bool
+contains [] n = false
+contains (m ∷ ms) n = eqb m n || contains ms n
+
+-- One number more, unless it is there.
+abbrev pub noted : List ℕ → ℕ → List ℕ
+noted ms n = cond (contains ms n) ms (ms ++ n ∷ [])
+
+-- No number comes twice.
+abbrev pub none-twice : List ℕ → Bool
+none-twice [] = true
+none-twice (m ∷ ms) = not (contains ms m) && none-twice ms
+
+-- The numbers as plain ones.
+abbrev pub plain : List Number → List ℕ
+plain ns = map (λ n. n .0) ns

@@ -1,0 +1,11 @@
+// Drafts, which take clauses, and cases, which take evidence.
+mod draft;
+mod faults;
+mod kind;
+mod roots;
+
+pub use draft::Case;
+pub use draft::Draft;
+pub use faults::CallFault;
+pub use faults::CaseFault;
+pub use kind::ClauseKind;

@@ -1,0 +1,5 @@
+pub mod Numbers
+pub mod Listing
+pub mod Entering
+pub mod Steps
+pub mod Answers

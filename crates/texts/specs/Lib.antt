@@ -1,0 +1,9 @@
+pub mod Grammar
+pub mod Signs
+pub mod Reading
+pub mod Scan
+pub mod Syntax
+pub mod Parsing
+pub mod Normals
+pub mod Faults
+pub mod Theorems
