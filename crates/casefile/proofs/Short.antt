@@ -9,7 +9,7 @@ use Rattle.kits.specs.declared.KitFault.{KitFault}
 use Rattle.kits.specs.declared.KitFault.the-variants.{Unknown, NotAllowed}
 use Rattle.kits.specs.Faults as kit
 use Rattle.cases.specs.declared.faults.CaseFault.{CaseFault}
-use Rattle.cases.specs.declared.faults.CaseFault.the-variants.{UnknownKind, SecondProperty, TooManyClauses}
+use Rattle.cases.specs.declared.faults.CaseFault.the-variants.{UnknownKind, SecondProperty, TooManyClauses, NotInTable, StrayLetter, TooManyPositions, ClosedRun, NoPosition, FalseRoot}
 use Rattle.cases.specs.Faults as case
 use Rattle.casefile.specs.declared.faults.LineFault.{LineFault}
 use Rattle.casefile.specs.declared.faults.LineFault.the-variants.{NotDue, Value, Text, Case, Kit}
@@ -34,6 +34,12 @@ case-short : (f : CaseFault) → Short (case.case-refusal f)
 case-short UnknownKind = record { number = lit< tt; layer = lit< tt }
 case-short SecondProperty = record { number = lit< tt; layer = lit< tt }
 case-short TooManyClauses = record { number = lit< tt; layer = lit< tt }
+case-short (NotInTable i) = record { number = lit< tt; layer = lit< tt }
+case-short (StrayLetter b) = record { number = lit< tt; layer = lit< tt }
+case-short TooManyPositions = record { number = lit< tt; layer = lit< tt }
+case-short ClosedRun = record { number = lit< tt; layer = lit< tt }
+case-short NoPosition = record { number = lit< tt; layer = lit< tt }
+case-short (FalseRoot n) = record { number = lit< tt; layer = lit< tt }
 
 pub short : (f : LineFault) → Short (refusal f)
 short NotDue = record { number = lit< tt; layer = lit< tt }

@@ -59,3 +59,11 @@ pub impl From<CallFault> for LineFault as LineFaultFromCall {
         }
     }
 }
+
+pub impl From<CaseFault> for LineFault as LineFaultFromCase {
+    ghost converts = { λ f r. r ≡ Case f };
+
+    fn from(fault: CaseFault) -> LineFault {
+        LineFault::Case(fault)
+    }
+}

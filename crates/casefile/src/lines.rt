@@ -17,6 +17,9 @@ pub enum Line<'a> {
     Prop(&'a [u8]),
     Seal(&'a [u8]),
     Form(&'a [u8]),
+    State(&'a [u8]),
+    Loop(&'a [u8]),
+    Drop(&'a [u8]),
     // No `=`, or another key.
     Unknown,
 }
@@ -37,6 +40,9 @@ impl<'a> Line<'a> {
             b"prop" => Line::Prop(value),
             b"seal" => Line::Seal(value),
             b"form" => Line::Form(value),
+            b"state" => Line::State(value),
+            b"loop" => Line::Loop(value),
+            b"drop" => Line::Drop(value),
             _ => Line::Unknown,
         }
     }

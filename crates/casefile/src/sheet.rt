@@ -14,12 +14,15 @@ use super::buffer::put_field;
 use super::buffer::put_refusal;
 use super::faults::LineFault;
 use super::faults::LineFaultFromCall;
+use super::faults::LineFaultFromCase;
 use super::faults::LineFaultFromText;
 use super::lines::Line;
 use super::lines::Lines;
 use super::values::Choice;
 use super::values::kit_choice;
+use super::values::letters;
 use super::values::nothing;
+use super::values::number;
 use cases::Case;
 use cases::Draft;
 use kits::Kit;
@@ -80,6 +83,9 @@ enum Answer {
     Prop(Number),
     Seal(usize),
     Form(Number),
+    State(usize),
+    Loop(usize),
+    Drop(usize),
 }
 
 impl Answer {
@@ -93,6 +99,9 @@ impl Answer {
             Answer::Prop(_) => b"prop",
             Answer::Seal(_) => b"seal",
             Answer::Form(_) => b"form",
+            Answer::State(_) => b"state",
+            Answer::Loop(_) => b"loop",
+            Answer::Drop(_) => b"drop",
         }
     }
 
@@ -103,7 +112,10 @@ impl Answer {
             | Answer::Trans(n)
             | Answer::Prop(n)
             | Answer::Form(n) => n.0 as usize,
-            Answer::Seal(count) => count,
+            Answer::Seal(count)
+            | Answer::State(count)
+            | Answer::Loop(count)
+            | Answer::Drop(count) => count,
         }
     }
 }
@@ -171,6 +183,12 @@ fn take_line<K: Kit + Drop>(
 fn serve_line<K: Kit + Drop>(case: &mut Case<K>, line: Line) -> Result<Answer, LineFault> {
     match line {
         Line::Form(text) => Ok(Answer::Form(case.form(text)?)),
+        Line::State(value) => Ok(Answer::State(case.state(letters(value)?)?)),
+        Line::Loop(value) => Ok(Answer::Loop(case.close_loop(number(value)?)?)),
+        Line::Drop(value) => {
+            nothing(value)?;
+            Ok(Answer::Drop(case.drop_run()))
+        }
         _ => Err(LineFault::NotDue),
     }
 }

@@ -45,3 +45,31 @@ pub fn nothing(value: &[u8]) -> Result<(), LineFault> {
         Err(LineFault::Value(0))
     }
 }
+
+// Letters, in any order: a word with their bits set.
+pub fn letters(value: &[u8]) -> Result<u32, LineFault> {
+    let mut set = 0u32;
+    for (at, byte) in value.iter().enumerate() {
+        if *byte < b'a' || *byte > b'z' {
+            return Err(LineFault::Value(at));
+        }
+        set |= 1 << (*byte - b'a');
+    }
+    Ok(set)
+}
+
+// A number of one to four digits without leading zeros.
+pub fn number(value: &[u8]) -> Result<usize, LineFault> {
+    let mut number = 0usize;
+    for (at, byte) in value.iter().enumerate() {
+        let goes_on = at == 0 || at < 4 && number > 0;
+        if !goes_on || *byte < b'0' || *byte > b'9' {
+            return Err(LineFault::Value(at));
+        }
+        number = number * 10 + (*byte - b'0') as usize;
+    }
+    if value.is_empty() {
+        return Err(LineFault::Value(0));
+    }
+    Ok(number)
+}

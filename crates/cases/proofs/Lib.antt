@@ -1,2 +1,6 @@
 pub mod Noted
 pub mod Clauses
+pub mod Recorded
+pub mod Inside
+pub mod Smallest
+pub mod Looped

@@ -1,7 +1,7 @@
 -- The calls clause, seal and form: refusal or answer, and what is held afterwards. Assumes nothing.
 use mathlib.Core.Path.{_≡_}
 use mathlib.Core.Bool.{Bool, true, false, _&&_, _||_, cond}
-use mathlib.Core.List.{List}
+use mathlib.Core.List.{List, []}
 use Prim.Native.Nat.{ℕ, _+_}
 use lib.Dec.{eqb, leb}
 use lib.ListN.{length}
@@ -25,7 +25,7 @@ use Rattle.cases.specs.declared.faults.CallFault.{CallFault}
 use Rattle.cases.specs.declared.faults.CallFault.the-variants.{Text, Case}
 use Rattle.cases.specs.declared.kind.ClauseKind.{ClauseKind}
 use Rattle.cases.specs.declared.kind.ClauseKind.the-variants.{Init, Invariant, Transition, Property}
-use Rattle.cases.specs.Models.{DraftModel, CaseModel}
+use Rattle.cases.specs.Models.{DraftModel, RunModel, CaseModel}
 use Rattle.cases.specs.Roots.{noted}
 
 -- The kinds of clauses by number: 1 init, 2 invariant, 3 transition, 4 property.
@@ -93,10 +93,14 @@ clause d n w = clause-unless (objection d (kind-of n)) d (kind-of n) w
 unfoldable pub after-clause : DraftModel → ℕ → List ℕ → DraftModel
 after-clause d n w = draft-unless (objection d (kind-of n)) d (kind-of n) w
 
+-- no states, and no back position
+abbrev pub no-run : RunModel
+no-run = record { states = []; back = None }
+
 -- Seal: without a property, number 0 is added as a root. The answer is the count of root formulas.
 abbrev pub sealed : DraftModel → CaseModel
-sealed d = record { formulas = d .formulas; roots = cond (d .property) (d .roots) (noted (d .roots) 0) }
+sealed d = record { formulas = d .formulas; roots = cond (d .property) (d .roots) (noted (d .roots) 0); run = no-run }
 
 -- Form: the case afterwards.
 abbrev pub after-form : CaseModel → List ℕ → CaseModel
-after-form c w = record { formulas = after (c .formulas) Itself w; roots = c .roots }
+after-form c w = record { formulas = after (c .formulas) Itself w; roots = c .roots; run = c .run }

@@ -4,3 +4,7 @@ pub mod Models
 pub mod Drafts
 pub mod Views
 pub mod Results
+pub mod Satisfied
+pub mod Phases
+pub mod Recordings
+pub mod Loops

@@ -1,9 +1,16 @@
 // Drafts and cases.
+ghost use mathlib.Core.Path.{_≡_};
+ghost use mathlib.Core.Bool.{true};
 ghost use Prim.Native.Nat.{_≤_};
-ghost use Rattle.std.specs.Of.Vec.{vec-len};
+ghost use lib.ListN.{length};
+ghost use Rattle.std.specs.Of.Vec.{vec-items, vec-len};
+ghost use Rattle.tables.specs.Listing.{formulas};
+ghost use Rattle.cases.specs.Roots.{all-below, plain};
 
 mod calls;
+mod runs;
 
+use super::recorder::Recorder;
 use super::roots::Roots;
 use tables::Table;
 use texts::Syntax;
@@ -23,6 +30,7 @@ pub struct Draft<K> {
     property: bool,
     ghost few: { clauses ≤ 40 },
     ghost rooted: { vec-len (roots .numbers) ≤ clauses },
+    ghost inside: { all-below (length (formulas (vec-items (table .shapes)))) (plain (vec-items (roots .numbers))) ≡ true },
 }
 
 // A case: a draft that is sealed. It takes evidence for or against the property.
@@ -32,4 +40,6 @@ pub struct Case<K> {
     table: Table,
     syntax: Syntax,
     roots: Roots,
+    run: Recorder,
+    ghost inside: { all-below (length (formulas (vec-items (table .shapes)))) (plain (vec-items (roots .numbers))) ≡ true },
 }

@@ -14,21 +14,39 @@ pub enum CaseFault {
     SecondProperty,
     // Forty clauses are taken.
     TooManyClauses,
+    // A number is not in the table, at its index.
+    NotInTable(usize),
+    // A state has a letter past the last one: the lowest such bit.
+    StrayLetter(usize),
+    // 64 positions are held.
+    TooManyPositions,
+    // The run is closed.
+    ClosedRun,
+    // There is no such back position.
+    NoPosition,
+    // A root formula is false at position 0: the smallest such number.
+    FalseRoot(usize),
 }
 
 impl CaseFault {
     pub fn refusal(&self) -> Refusal
         ensures { λ r. ⌜ r ≡ case-refusal (now (self .entry)) ⌝ }
     {
-        let number = match self {
-            CaseFault::UnknownKind => 6,
-            CaseFault::SecondProperty => 7,
-            CaseFault::TooManyClauses => 8,
+        let (number, place) = match *self {
+            CaseFault::UnknownKind => (6, 0),
+            CaseFault::SecondProperty => (7, 0),
+            CaseFault::TooManyClauses => (8, 0),
+            CaseFault::NotInTable(index) => (10, index),
+            CaseFault::StrayLetter(bit) => (14, bit),
+            CaseFault::TooManyPositions => (15, 0),
+            CaseFault::ClosedRun => (16, 0),
+            CaseFault::NoPosition => (17, 0),
+            CaseFault::FalseRoot(number) => (18, number),
         };
         Refusal {
             number,
             layer: 3,
-            place: 0,
+            place,
         }
     }
 }

@@ -2,6 +2,7 @@
 mod draft;
 mod faults;
 mod kind;
+mod recorder;
 mod roots;
 
 pub use draft::Case;
@@ -9,3 +10,4 @@ pub use draft::Draft;
 pub use faults::CallFault;
 pub use faults::CaseFault;
 pub use kind::ClauseKind;
+pub use recorder::Event;

@@ -4,6 +4,10 @@ ghost use mathlib.Core.Bool.{Bool};
 ghost use Rattle.pltl.specs.Formulas.{Formula, opposite};
 ghost use Rattle.pltl.specs.Shapes.{formula-of, all-parts, Each};
 
+mod theorems;
+
+pub use theorems::truth_stands;
+
 // What names a formula and can name its opposite.
 pub trait Dual {
     ghost dualized: { Self → Self };

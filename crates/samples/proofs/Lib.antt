@@ -1,1 +1,2 @@
+pub mod TwoStates
 pub mod Worked

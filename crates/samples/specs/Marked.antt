@@ -3,17 +3,32 @@ use mathlib.Core.Path.{_≡_}
 use mathlib.Core.List.{List, [], _∷_}
 use Prim.Native.Nat.{ℕ}
 use lib.Chars.{codes}
-use Rattle.pltl.specs.Formulas.{Formula, True, False}
+use lib.Dec.{lit<}
+use Rattle.pltl.specs.Formulas.{Tree, Formula, True, False, normal}
+use Rattle.pltl.specs.Runs.{Run}
 use Rattle.std.specs.declared.result.Result.{Result}
 use Rattle.std.specs.declared.result.Result.the-variants.{Ok, Err}
 use Rattle.texts.specs.declared.faults.TextFault.{TextFault}
 use Rattle.texts.specs.declared.faults.TextFault.the-variants.{Unexpected, Incomplete}
 use Rattle.tables.specs.declared.table.entering.Form.the-variants.{Itself}
+use Rattle.texts.specs.Scan.{reading}
 use Rattle.tables.specs.Answers.{answer, after}
+use Rattle.tables.specs.Rows.{state-of, RowOf}
 
 -- an empty table has true and false alone
 abbrev pub empty : List Formula
 empty = True ∷ False ∷ []
+
+-- Two states, the first with the letter a and the second with none; the last is followed by the first, or by itself.
+abbrev pub to-first : Run
+to-first = record { states = state-of 1 ∷ state-of 0 ∷ []; back = 0; within = lit< tt }
+
+abbrev pub to-last : Run
+to-last = record { states = state-of 1 ∷ state-of 0 ∷ []; back = 1; within = lit< tt }
+
+-- The text spells a tree whose normal form has this row on the run.
+abbrev pub TextRow : Run → List ℕ → ℕ → Type 0
+TextRow r w row = (t : Tree) × (reading w ≡ Ok t) × RowOf r (normal t) row
 
 pub record MarkedSamples : Type 0 where
   pub opposite-first : answer empty Itself (codes "!(aUb)") ≡ Ok 6
@@ -23,3 +38,8 @@ pub record MarkedSamples : Type 0 where
   pub only-begun : answer empty Itself (codes "G") ≡ Err (Incomplete 1)
   pub two-letters : answer empty Itself (codes "aa") ≡ Err (Unexpected 1)
   pub bracket-open : answer empty Itself (codes "(a") ≡ Err (Incomplete 2)
+  pub next-row : TextRow to-first (codes "Xa") 2
+  pub infinitely-often : TextRow to-first (codes "GFa") 3
+  pub at-last-always : TextRow to-first (codes "FGa") 0
+  pub only-once : TextRow to-last (codes "GFa") 0
+  pub until-not : TextRow to-last (codes "aU!a") 3

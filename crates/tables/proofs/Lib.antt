@@ -4,3 +4,10 @@ pub mod Growth
 pub mod Listed
 pub mod Added
 pub mod Answered
+pub mod BitTests
+pub mod Sweeps
+pub mod SweptWords
+pub mod RecordedStates
+pub mod RowSigns
+pub mod RunRows
+pub mod RowPass

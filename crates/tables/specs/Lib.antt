@@ -3,3 +3,5 @@ pub mod Listing
 pub mod Entering
 pub mod Steps
 pub mod Answers
+pub mod Rows
+pub mod Words

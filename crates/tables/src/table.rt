@@ -13,6 +13,7 @@ ghost use Rattle.tables.specs.Listing.{formulas, formula-over, parts-below, Pa
 ghost use Rattle.tables.specs.Steps.{Names, Grown, Reaches, Finds};
 
 mod entering;
+mod evaluation;
 
 use super::number::Number;
 use super::number::NumberDual;
@@ -54,6 +55,14 @@ impl Table {
         shapes.push_reserved(Shape::True);
         shapes.push_reserved(Shape::False);
         Ok(Table { shapes })
+    }
+
+    // How many numbers are in use.
+    pub fn len(&self) -> usize
+        ensures value { λ r. ⌜ r ≡ length (formulas (vec-items (now (self .entry) .shapes))) ⌝ }
+        ensures few { λ r. ⌜ r ≤ 512 ⌝ }
+    {
+        self.shapes.len()
     }
 
     // The number of a formula that is in the table, by its shape.

@@ -17,6 +17,7 @@ use super::super::faults::CallFaultFromCase;
 use super::super::faults::CallFaultFromText;
 use super::super::faults::CaseFault;
 use super::super::kind::ClauseKind;
+use super::super::recorder::Recorder;
 use super::super::roots::Roots;
 use super::Case;
 use super::Draft;
@@ -104,6 +105,7 @@ impl<K: Kit + Drop> Draft<K> {
                 table,
                 syntax,
                 roots,
+                run: Recorder::new(),
             },
             count,
         )

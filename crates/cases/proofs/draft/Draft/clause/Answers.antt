@@ -1,5 +1,5 @@
 use mathlib.Core.Path.{_≡_, refl, sym, ap, subst, _∙_}
-use mathlib.Core.Bool.{_||_}
+use mathlib.Core.Bool.{true, _||_}
 use Prim.Native.Nat.{_+_, _%_, _<_, _≤_}
 use native.Mathlib.Omega.{arith}
 use lib.ListN.{length}
@@ -15,7 +15,9 @@ use Rattle.tables.proofs.Listed.{length-formulas}
 use Rattle.cases.specs.Drafts.{form-of, root-number, is-property}
 use Rattle.cases.specs.Models.{DraftModel}
 use Rattle.cases.specs.Results.{call-number}
-use Rattle.cases.specs.Roots.{noted, plain}
+use Rattle.tables.proofs.Growth.{length-grown}
+use Rattle.cases.specs.Roots.{noted, plain, all-below}
+use Rattle.cases.proofs.Inside.{all-below-more, all-below-noted}
 use Rattle.cases.specs.Views.{draft-model}
 use Rattle.cases.proofs.Clauses.{clause-objected, clause-admitted, root-named, length-noted, admitted-room}
 use Rattle.cases.proofs.draft.Draft.clause.Needs as need
@@ -44,7 +46,12 @@ ghost-self-2 g c =
     let old = t .roots .numbers in
     let new = c .note .last .self .numbers in
     let long : vec-len new ≤ vec-len old + 1 = omega (arith, new .ok .0, old .ok .0, length-map (vec-items new) (λ n. n .0), length-map (vec-items old) (λ n. n .0), ap length (c .note .ensures), length-noted (plain (vec-items old)) (c .root-root .result .0)) in
-    (omega (arith, admitted-room (draft-model t) (c .in-Continue-kind .kind) (told .1)), (omega (arith, t .rooted), tt))
+    let e = c .in-Continue-entered .ensures tt in
+    let ss = vec-items (c .enter .last .self .shapes) in
+    let fs = formulas ss in
+    let even : length fs % 2 ≡ 0 = subst (λ n. n % 2 ≡ 0) (c .enter .last .self .shapes .ok .0 ∙ sym (length-formulas ss)) (c .enter .last .self .even) in
+    let named = root-named fs (c .in-Continue-kind .kind) (e .names .0) (c .in-Continue-entered .entered) (c .root-root .result) (e .lawful) even (c .root-root .ensures) (subst (λ f. Names fs (c .in-Continue-entered .entered) (entry f (e .names .0))) (c .form .ensures) (e .names .2)) in
+    (omega (arith, admitted-room (draft-model t) (c .in-Continue-kind .kind) (told .1)), (omega (arith, t .rooted), (subst (λ l. all-below (length fs) l ≡ true) (sym (c .note .ensures)) (all-below-noted (plain (vec-items old)) (length fs) (c .root-root .result .0) (all-below-more (plain (vec-items old)) _ (length fs) (length-grown (e .grown)) (t .inside)) (named .0)), tt)))
 
 pub returns : need.returns
 returns g c =
