@@ -1,7 +1,7 @@
 // Refusals of the line layer.
 ghost use mathlib.Core.Path.{_≡_};
-ghost use Rattle.casefile.specs.declared.faults.LineFault.the-variants.{Text, Case, Kit};
-ghost use Rattle.casefile.specs.Faults.{refusal};
+ghost use Rattle.casefile.specs.declared.faults.LineFault.the-variants.{Text, Case};
+ghost use Rattle.casefile.specs.Faults.{refusal, from-call};
 use cases::CallFault;
 use cases::CaseFault;
 use kits::KitFault;
@@ -51,6 +51,8 @@ pub impl From<TextFault> for LineFault as LineFaultFromText {
 }
 
 pub impl From<CallFault> for LineFault as LineFaultFromCall {
+    ghost converts = { λ f r. r ≡ from-call f };
+
     fn from(fault: CallFault) -> LineFault {
         match fault {
             CallFault::Text(fault) => LineFault::Text(fault),

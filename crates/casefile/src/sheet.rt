@@ -1,11 +1,7 @@
 // The sheet of a case file.
 ghost use mathlib.Core.Path.{_≡_};
-ghost use mathlib.Core.Bool.{_&&_};
-ghost use Prim.Native.Nat.{_+_, _*_, _-_, _<_, _≤_};
-ghost use lib.Dec.{eqb, ltb, leb};
-ghost use lib.IntN.{ℤ, pos};
-ghost use lib.ListN.{length, getD, drop};
-ghost use Rattle.std.specs.Vec.{made};
+ghost use Prim.Native.Nat.{_+_, _*_, _<_, _≤_};
+ghost use lib.ListN.{length, drop};
 ghost use Rattle.casefile.specs.Newlines.{newlines};
 ghost use Rattle.std.specs.Results.{Cases};
 ghost use Rattle.casefile.specs.Sheets.{file-accepted, Kept, LinesEnd, sealing, Answered};

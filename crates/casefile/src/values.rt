@@ -1,8 +1,4 @@
 // Values of lines that are no formula texts.
-ghost use mathlib.Core.Path.{_≡_};
-ghost use Prim.Native.Nat.{_≤_};
-ghost use lib.ListN.{length};
-ghost use Rattle.std.specs.Results.{Cases};
 use super::faults::LineFault;
 use kits::Kit;
 use kits::PairKit;

@@ -1,1 +1,5 @@
 pub mod Faults
+pub mod Sequents
+pub mod Rules
+pub mod Units
+pub mod Laws

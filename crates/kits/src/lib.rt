@@ -1,7 +1,11 @@
 // Kits: sets of proof rules.
 ghost use mathlib.Core.Path.{_≡_};
 ghost use Rattle.kits.specs.Faults.{refusal};
+
+mod theorems;
+
 use texts::Refusal;
+pub use theorems::rules_stand;
 
 // A kit has a letter, by which a case file chooses it.
 pub trait Kit {

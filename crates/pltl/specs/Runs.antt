@@ -13,7 +13,7 @@ pub record Run : Type 0 where
   pub back : ℕ
   pub within : back < length states
 
--- The next position is followed, and the last position is followed by the back position.
+-- A position is followed by the next one, and the last position by the back position.
 abbrev pub following : Run → ℕ → ℕ
 following r p = cond (ltb (p + 1) (length (r .states))) (p + 1) (r .back)
 

@@ -169,7 +169,7 @@ fn sheets(rt: LibcRuntime) -> Result<(), Fail> {
 }
 
 // Long files and texts, and their sheets.
-const LONG: [(Pieces, Pieces); 11] = [
+const LONG: [(Pieces, Pieces); 12] = [
     // 512 and 513 bytes
     (
         &[(b"kit=s\ninit=", 1), (b"!", 511), (b"a\n", 1)],
@@ -234,10 +234,15 @@ const LONG: [(Pieces, Pieces); 11] = [
             (b"refused=8\nlayer=3\nline=42\nplace=0\n", 1),
         ],
     ),
-    // 500 lines, 32,000 bytes
+    // 500 lines
     (
         &[(b"kit=s\nseal=\n", 1), (b"form=aUa\n", 498)],
         &[(b"kit=s\nseal=1\n", 1), (b"form=4\n", 498)],
+    ),
+    // 32,000 bytes
+    (
+        &[(b"kit=s\nseal=\n", 1), (b"a", 31_987), (b"\n", 1)],
+        &[(b"kit=s\nseal=1\nrefused=19\nlayer=2\nline=3\nplace=0\n", 1)],
     ),
     // 64 and 65 positions
     (
@@ -298,6 +303,17 @@ const REFUSED: [(Pieces, usize, i64); 9] = [
     (&[(b"kit=s\n", 1)], 63, -21),
     (&[(b"\n", 501)], 0, -22),
 ];
+
+// A buffer of exactly 64 bytes a line is taken.
+#[test]
+fn just_room(rt: LibcRuntime) -> Result<(), Fail> {
+    let heap = rt.alloc();
+    let mut out = vec![in heap; 7u8; 128]?;
+    check_eq(
+        sorvigzna_sheet(b"kit=s\nseal=\n", out.as_mut_slice(), heap),
+        13,
+    )
+}
 
 #[test]
 fn refused_whole(rt: LibcRuntime) -> Result<(), Fail> {
@@ -484,7 +500,7 @@ const RUNS: [&[u32]; 7] = [
 ];
 
 // A text, the index of a run, a back position, and the row: worked out by another program, which walks along the run.
-const ROWS: [(&[u8], usize, usize, u64); 187] = [
+const ROWS: [(&[u8], usize, usize, u64); 229] = [
     (b"1", 0, 0, 1),
     (b"0", 0, 0, 0),
     (b"a", 0, 0, 1),
@@ -672,6 +688,48 @@ const ROWS: [(&[u8], usize, usize, u64); 187] = [
     (b"GFb", 6, 41, 0),
     (b"FG!b", 6, 41, 18446744073709551615),
     (b"!aUb", 6, 41, 1099511627776),
+    (b"1", 5, 0, 18446744073709551615),
+    (b"0", 5, 0, 0),
+    (b"a", 5, 0, 5360364132818425541),
+    (b"!a", 5, 0, 13086379940891126074),
+    (b"Ga", 5, 0, 0),
+    (b"Fa", 5, 0, 18446744073709551615),
+    (b"a&b", 5, 0, 563499726012480),
+    (b"a|b", 5, 0, 6550440335156385485),
+    (b"a->b", 5, 0, 13086943440617138554),
+    (b"bUa", 5, 0, 5360364133623731909),
+    (b"!(aUb)", 5, 0, 16652129165490782131),
+    (b"XXb", 5, 0, 297659925515993106),
+    (b"aU!a", 5, 0, 18446744073709551615),
+    (b"G(a->Fb)", 5, 0, 18446744073709551615),
+    (b"1", 5, 17, 18446744073709551615),
+    (b"0", 5, 17, 0),
+    (b"a", 5, 17, 5360364132818425541),
+    (b"!a", 5, 17, 13086379940891126074),
+    (b"Ga", 5, 17, 0),
+    (b"Fa", 5, 17, 18446744073709551615),
+    (b"a&b", 5, 17, 563499726012480),
+    (b"a|b", 5, 17, 6550440335156385485),
+    (b"a->b", 5, 17, 13086943440617138554),
+    (b"bUa", 5, 17, 5360364133623731909),
+    (b"!(aUb)", 5, 17, 16652129165490782131),
+    (b"XXb", 5, 17, 297659925515993106),
+    (b"aU!a", 5, 17, 18446744073709551615),
+    (b"G(a->Fb)", 5, 17, 18446744073709551615),
+    (b"1", 5, 63, 18446744073709551615),
+    (b"0", 5, 63, 0),
+    (b"a", 5, 63, 5360364132818425541),
+    (b"!a", 5, 63, 13086379940891126074),
+    (b"Ga", 5, 63, 0),
+    (b"Fa", 5, 63, 9223372036854775807),
+    (b"a&b", 5, 63, 563499726012480),
+    (b"a|b", 5, 63, 6550440335156385485),
+    (b"a->b", 5, 63, 13086943440617138554),
+    (b"bUa", 5, 63, 5360364133623731909),
+    (b"!(aUb)", 5, 63, 16652129165490782131),
+    (b"XXb", 5, 63, 297659925515993106),
+    (b"aU!a", 5, 63, 18446744073709551615),
+    (b"G(a->Fb)", 5, 63, 9223372036854775808),
 ];
 
 #[test]
@@ -694,7 +752,7 @@ fn rows(rt: LibcRuntime) -> Result<(), Fail> {
     Ok(())
 }
 
-// Rows that are refused: a number, a back position, and the refusal's number and place, over two states.
+// Rows that are refused: a number, a back position, and the refusal's number, layer and place, over two states.
 const NO_ROWS: [(usize, usize, (usize, usize, usize)); 3] = [
     (2, 0, (10, 3, 0)),
     (512, 9, (10, 3, 0)),

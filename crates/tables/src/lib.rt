@@ -1,4 +1,4 @@
-// The table of formulas, each with one number.
+// The table of formulas, each with one number; recorded states, and rows.
 mod number;
 mod rows;
 mod states;

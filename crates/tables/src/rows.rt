@@ -33,7 +33,7 @@ impl Rows {
         Rows { words: [0; 512] }
     }
 
-    // The row of a number; no position where there is no such number.
+    // The row of a number; no position from 512 on.
     pub fn row(&self, n: Number) -> u64
         ensures { λ r. ⌜ r ≡ getD (now (self .entry) .words) (n .0) 0 ⌝ }
     {

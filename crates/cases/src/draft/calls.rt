@@ -6,7 +6,9 @@ ghost use lib.ListN.{length};
 ghost use Rattle.std.specs.Results.{Cases};
 ghost use Rattle.std.specs.Vec.{made};
 ghost use Rattle.std.specs.declared.option.Option.the-variants.{Some, None};
-ghost use Rattle.pltl.specs.Formulas.{True, False};
+ghost use Rattle.pltl.specs.Formulas.{Tree, True, False, normal};
+ghost use Rattle.texts.specs.Grammar.{Spells, implication};
+ghost use Rattle.tables.specs.Steps.{Names};
 ghost use Rattle.tables.specs.Answers.{answer, by-number};
 ghost use Rattle.tables.specs.declared.table.entering.Form.the-variants.{Itself};
 ghost use Rattle.cases.specs.Drafts.{kind-of, RootOf, objection, clause, after-clause, sealed, after-form};
@@ -116,6 +118,7 @@ impl<K: Kit + Drop> Case<K> {
     // The number of a text's formula.
     pub fn form(&mut self, text: &[u8]) -> Result<Number, TextFault>
         ensures value { λ r. ⌜ by-number r ≡ answer (case-model (now (self .entry)) .formulas) Itself (now (text .entry)) ⌝ }
+        ensures names { λ r. ⌜ made r (λ n. (t : Tree) × Spells implication t (now (text .entry)) × Names (case-model (now (self .exit)) .formulas) n (normal t)) ⌝ }
         ensures after { λ _. ⌜ case-model (now (self .exit)) ≡ after-form (case-model (now (self .entry))) (now (text .entry)) ⌝ }
         ensures kit { λ _. ⌜ now (self .exit) .kit ≡ now (self .entry) .kit ⌝ }
     {

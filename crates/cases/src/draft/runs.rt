@@ -5,7 +5,7 @@ ghost use lib.ListN.{length};
 ghost use Rattle.pltl.specs.Runs.{Run};
 ghost use Rattle.cases.specs.declared.recorder.Event.the-variants.{State, Loop, Drop as Dropped};
 ghost use Rattle.cases.specs.Loops.{false-root, loop-objection, with-run, LoopMeans, RowMeans};
-ghost use Rattle.cases.specs.Recordings.{event-objection, event-answer, after-event, answer-unless, kept-unless};
+ghost use Rattle.cases.specs.Recordings.{event-objection, after-event, answer-unless, kept-unless};
 ghost use Rattle.cases.specs.Views.{case-model};
 use super::super::faults::CaseFault;
 use super::super::recorder::Event;
