@@ -1,7 +1,7 @@
 // The lines of a case file.
 ghost use mathlib.Core.Path.{_≡_};
-ghost use mathlib.Core.Bool.{true};
-ghost use Prim.Native.Nat.{ℕ, _-_, _<_, _≤_};
+ghost use mathlib.Core.Bool.{true, cond};
+ghost use Prim.Native.Nat.{ℕ, _+_, _-_, _<_, _≤_};
 ghost use lib.Dec.{ltb};
 ghost use Rattle.std.specs.Options.{isSome};
 ghost use lib.ListN.{length, getD, drop};
@@ -100,6 +100,7 @@ impl<'a> Lines<'a> {
         ensures file { λ _. ⌜ now (now (self .exit) .file) ≡ now (now (self .entry) .file) ⌝ }
         ensures some { λ r. ⌜ isSome r ≡ ltb (now (self .entry) .at) (length (now (now (self .entry) .file))) ⌝ }
         ensures passed { λ r. ⌜ newlines (drop (now (self .exit) .at) (now (now (self .entry) .file))) ≡ newlines (drop (now (self .entry) .at) (now (now (self .entry) .file))) - 1 ⌝ }
+        ensures counted { λ r. ⌜ now (self .exit) .line ≡ cond (isSome r) (now (self .entry) .line + 1) (now (self .entry) .line) ⌝ }
         ensures moved { λ r. ⌜ (isSome r ≡ true → now (self .entry) .at < now (self .exit) .at) ⌝ }
     {
         let file = self.file;

@@ -14,7 +14,7 @@ pub enum Choice {
 }
 
 // A kit's letter, alone.
-pub fn kit_choice(value: &[u8]) -> Result<Choice, LineFault> {
+pub(crate) fn kit_choice(value: &[u8]) -> Result<Choice, LineFault> {
     let Some(letter) = value.first().copied() else {
         return Err(LineFault::Value(0));
     };
@@ -34,7 +34,7 @@ pub fn kit_choice(value: &[u8]) -> Result<Choice, LineFault> {
 }
 
 // No value.
-pub fn nothing(value: &[u8]) -> Result<(), LineFault> {
+pub(crate) fn nothing(value: &[u8]) -> Result<(), LineFault> {
     if value.is_empty() {
         Ok(())
     } else {
@@ -43,7 +43,7 @@ pub fn nothing(value: &[u8]) -> Result<(), LineFault> {
 }
 
 // Letters, in any order: a word with their bits set.
-pub fn letters(value: &[u8]) -> Result<u32, LineFault> {
+pub(crate) fn letters(value: &[u8]) -> Result<u32, LineFault> {
     let mut set = 0u32;
     for (at, byte) in value.iter().enumerate() {
         if *byte < b'a' || *byte > b'z' {
@@ -55,7 +55,7 @@ pub fn letters(value: &[u8]) -> Result<u32, LineFault> {
 }
 
 // A number of one to four digits without leading zeros.
-pub fn number(value: &[u8]) -> Result<usize, LineFault> {
+pub(crate) fn number(value: &[u8]) -> Result<usize, LineFault> {
     let mut number = 0usize;
     for (at, byte) in value.iter().enumerate() {
         let goes_on = at == 0 || at < 4 && number > 0;

@@ -15,6 +15,7 @@ returns-then-start-file c = record {
   file = refl;
   some = sym (le-ltb (c .args .self .now .at) (length (c .args .self .now .file .now)) (c .if-start-file .taken));
   passed = omega (arith, at-drop-all newlines (c .args .self .now .file .now) (c .args .self .now .at) (c .if-start-file .taken));
+  counted = refl;
   moved = λ h. omega (arith, false≢true h);
 }
 
@@ -40,6 +41,7 @@ returns c =
         | then-end-file w ↦ to-end file i (c .find-end .result) (c .if-end-file .self) (end .within .1) (end .before) (end .found) (w .if-end-file .taken) (w .self-is)
         | else-end-file w ↦ to-last file i (c .find-end .result) (c .if-end-file .self) (end .within .0) (end .before) (w .if-end-file .left) (w .self-is)
       ];
+      counted = refl;
       moved = λ h. elim (c .if-end-file .came) [
         | then-end-file w ↦ omega (arith, w .self-is, end .within .1)
         | else-end-file w ↦ omega (arith, w .self-is, w .if-end-file .left, c .if-start-file .left)
