@@ -1,5 +1,5 @@
 -- A sequent rule whose premises have no run has a conclusion without a run. Assumes nothing.
-use Rattle.std.proofs.Common.{◌≡◌, ℕ, ◌+◌, ◌<◌, ◌≤◌, List, sym, subst, ⊎_elim, arith}
+use Rattle.std.proofs.Common.{◌≡◌, ℕ, ◌<◌, ◌≤◌, List, sym, subst, ⊎_elim, arith}
 use Rattle.std.proofs.lemmas.Bool.{cases_lt}
 use Rattle.pltl.specs.Formulas.{Formula, opposite}
 use Rattle.pltl.specs.Formulas as f

@@ -1,4 +1,6 @@
 // Case files, and the sheet that is written of one.
+#![tactic(auto)]
+
 mod buffer;
 mod evidence;
 mod faults;

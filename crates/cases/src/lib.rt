@@ -1,4 +1,6 @@
 // Drafts, which take clauses, and cases, which take evidence.
+#![tactic(auto)]
+
 mod call;
 mod draft;
 mod faults;

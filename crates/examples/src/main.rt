@@ -1,4 +1,6 @@
 // Writes the sheet of each example's case file, and says whether it is the one that is stored beside it.
+#![tactic(auto)]
+
 ghost use Rattle.std.specs.Prelude.{◌≡◌, ◌≤◌, length, take, Decides};
 
 use anyhow::anyhow;

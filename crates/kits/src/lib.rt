@@ -1,4 +1,6 @@
 // Kits: sets of proof rules.
+#![tactic(auto)]
+
 mod faults;
 mod kit;
 mod pair;

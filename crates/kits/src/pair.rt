@@ -37,16 +37,16 @@ impl<A: Kit, B: Kit> Kit for Pair<A, B> {
     ghost named_known = { Prim.search rules };
 
     ghost named_once = { λ k v w n p q.
-        let by-v = named-by-one (A.Kit.named k.first v) (B.Kit.named k.second v) n p in
-        let by-w = named-by-one (A.Kit.named k.first w) (B.Kit.named k.second w) n q in
+        let by_v = named_by_one (A.Kit.named k.first v) (B.Kit.named k.second v) n p in
+        let by_w = named_by_one (A.Kit.named k.first w) (B.Kit.named k.second w) n q in
         ⊎_elim
-        (λ a. ⊎_elim (λ b. A.Kit.named_once k.first v w n a.0 b.0) (λ b. absurd (omega (arith, a.1, b.2))) by-w)
+        (λ a. ⊎_elim (λ b. A.Kit.named_once k.first v w n a.0 b.0) (λ b. absurd (omega (arith, a.1, b.2))) by_w)
         (λ a. ⊎_elim
         (λ b. absurd (omega (arith, b.1, a.2)))
         (λ b. let same : b.0 ≡ a.0 = omega (arith, a.2, b.2) in
         B.Kit.named_once k.second v w a.0 a.1 (b.1 ∙ ap Some same))
-        by-w)
-        by-v };
+        by_w)
+        by_v };
 
     ghost allowed_known = { Prim.search rules };
 

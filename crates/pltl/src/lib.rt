@@ -1,4 +1,6 @@
 // Formulas of propositional linear temporal logic in negation normal form, by their outermost sign.
+#![tactic(auto)]
+
 ghost use Rattle.std.specs.Prelude.{◌≡◌, Bool};
 ghost use Rattle.pltl.specs.Formulas.{Formula, opposite};
 ghost use Rattle.pltl.specs.Shapes.{formula_of, all_parts, Each};

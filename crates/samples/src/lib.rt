@@ -1,4 +1,6 @@
 // Worked examples: a list that is proved, and tables that are run.
+#![tactic(auto)]
+
 ghost use Rattle.samples.specs.Marked.{MarkedSamples};
 
 #[cfg(test)]

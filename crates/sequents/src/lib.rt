@@ -1,4 +1,6 @@
 // Kit `s`: the sequent rules.
+#![tactic(auto)]
+
 ghost use Rattle.std.specs.Prelude.{◌≡◌, take, drop, refl};
 ghost use Rattle.kits.specs.Names.{lookup};
 ghost use Rattle.sequents.specs.SequentRules.{sequent_knows, sequent_names, sequent_allows};

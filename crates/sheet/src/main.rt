@@ -1,5 +1,7 @@
 // Reads a case file on standard input and writes its sheet on standard output. A file that is refused gives no output
 // and status 1.
+#![tactic(auto)]
+
 ghost use Rattle.std.specs.Prelude.{◌≤◌, length, IfOk};
 
 use anyhow::anyhow;

@@ -34,14 +34,14 @@ low_or x y = omega (arith, or_step x y)
 low_without : (x y : ℕ) → bit_xor x (bit_and y x) % 2 ≡ differ (x % 2) (min (y % 2) (x % 2)) % 2
 low_without x y = omega (arith, xor_step x (bit_and y x), ap (differ (x % 2)) (low_and y x))
 
-pub bit_and : (a b i : ℕ) → bit (bit_and a b) i ≡ (bit a i && bit b i)
-bit_and a b i =
+pub bit_of_and : (a b i : ℕ) → bit (bit_and a b) i ≡ (bit a i && bit b i)
+bit_of_and a b i =
     let x = a / 2 ^ i in
     let y = b / 2 ^ i in
     ap (λ z. eqb (z % 2) 1) (and_shr a b i) ∙ ap (λ z. eqb z 1) (low_and x y) ∙ and_bits (x % 2) (y % 2) (omega arith) (omega arith)
 
-pub bit_or : (a b i : ℕ) → bit (bit_or a b) i ≡ (bit a i || bit b i)
-bit_or a b i =
+pub bit_of_or : (a b i : ℕ) → bit (bit_or a b) i ≡ (bit a i || bit b i)
+bit_of_or a b i =
     let x = a / 2 ^ i in
     let y = b / 2 ^ i in
     ap (λ z. eqb (z % 2) 1) (or_shr a b i) ∙ ap (λ z. eqb z 1) (low_or x y) ∙ or_bits (x % 2) (y % 2) (omega arith) (omega arith)

@@ -8,7 +8,7 @@ use Rattle.pltl.specs.Runs.{no_letters}
 use Rattle.pltl.specs.Truth.{State}
 use Rattle.tables.specs.Rows.{bit, state_of, recorded}
 use Rattle.tables.specs.Words.{marked}
-use Rattle.tables.proofs.BitTests.{bit_or, bit_only, bit_past}
+use Rattle.tables.proofs.BitTests.{bit_of_or, bit_only, bit_past}
 
 pub length_recorded : (ws : List ℕ) (n : ℕ) → length (recorded ws n) ≡ n
 unfolding recorded
@@ -44,7 +44,7 @@ module _ (ws vs : List ℕ) (letters at : ℕ) (clean : (p : ℕ) → get_or ws 
       let w = get_or ws p 0 in
       ap (λ x. bit x i) (is p)
       ∙ cond_both (ltb p 26 && bit letters p) (bit_or w (2 ^ at)) w (λ x. bit x i ≡ bit w i)
-      (λ _. bit_or w (2 ^ at) i ∙ ap (λ b. bit w i || b) (bit_only at i ∙ ne_eqb i at (omega arith)) ∙ or_false (bit w i))
+      (λ _. bit_of_or w (2 ^ at) i ∙ ap (λ b. bit w i || b) (bit_only at i ∙ ne_eqb i at (omega arith)) ∙ or_false (bit w i))
       (λ _. refl)
 
   marked_here : (p : ℕ) → bit (get_or vs p 0) at ≡ state_of letters p
@@ -53,7 +53,7 @@ module _ (ws vs : List ℕ) (letters at : ℕ) (clean : (p : ℕ) → get_or ws 
       let b = ltb p 26 && bit letters p in
       let none : bit w at ≡ false = bit_past w at at (clean p) (omega arith) in
       ⊎_elim
-      (λ t. ap (λ x. bit x at) (is p ∙ cond-true b _ _ t) ∙ bit_or w (2 ^ at) at ∙ or_right (bit w at) (bit (2 ^ at) at) (bit_only at at ∙ eq-eqb at at refl) ∙ sym t)
+      (λ t. ap (λ x. bit x at) (is p ∙ cond-true b _ _ t) ∙ bit_of_or w (2 ^ at) at ∙ or_right (bit w at) (bit (2 ^ at) at) (bit_only at at ∙ eq-eqb at at refl) ∙ sym t)
       (λ f. ap (λ x. bit x at) (is p ∙ cond-false b _ _ f) ∙ none ∙ sym f)
       (cases_Bool b)
 

@@ -7,7 +7,7 @@ use Rattle.pltl.specs.Truth.{UntilFrom}
 use Rattle.pltl.proofs.Positions.{until_weaker}
 use Rattle.tables.specs.Rows.{bit}
 use Rattle.tables.specs.Words.{In, GoalOrTurn}
-use Rattle.tables.proofs.BitTests.{bit_and, bit_or, bit_shr, bit_inside}
+use Rattle.tables.proofs.BitTests.{bit_of_and, bit_of_or, bit_shr, bit_inside}
 use Rattle.tables.proofs.Sweeps.{Each, Soon, each_one, each_more, soon_one, soon_more, soon_is_until}
 
 module _ (through goal : ℕ) where
@@ -21,7 +21,7 @@ module _ (through goal : ℕ) where
     pub found_doubled : (i : ℕ) → Decides (bit (bit_or reached (bit_and along (reached / 2 ^ span))) i) (Soon (span * 2) (In through) (In goal) i)
     found_doubled i =
         let is : bit (bit_or reached (bit_and along (reached / 2 ^ span))) i ≡ (bit reached i || (bit along i && bit reached (i + span)))
-        = bit_or reached (bit_and along (reached / 2 ^ span)) i ∙ ap (λ b. bit reached i || b) (bit_and along (reached / 2 ^ span) i ∙ ap (λ b. bit along i && b) (bit_shr reached span i)) in
+        = bit_of_or reached (bit_and along (reached / 2 ^ span)) i ∙ ap (λ b. bit reached i || b) (bit_of_and along (reached / 2 ^ span) i ∙ ap (λ b. bit along i && b) (bit_shr reached span i)) in
         let e : span + span ≡ span * 2 = omega arith in
         let more = soon_more (In through) (In goal) i span span in
         subst (λ n. Decides (bit (bit_or reached (bit_and along (reached / 2 ^ span))) i) (Soon n (In through) (In goal) i)) e
@@ -31,7 +31,7 @@ module _ (through goal : ℕ) where
     pub along_doubled : (i : ℕ) → Decides (bit (bit_and along (along / 2 ^ span)) i) (Each (span * 2) (In through) i)
     along_doubled i =
         let is : bit (bit_and along (along / 2 ^ span)) i ≡ (bit along i && bit along (i + span))
-        = bit_and along (along / 2 ^ span) i ∙ ap (λ b. bit along i && b) (bit_shr along span i) in
+        = bit_of_and along (along / 2 ^ span) i ∙ ap (λ b. bit along i && b) (bit_shr along span i) in
         let e : span + span ≡ span * 2 = omega arith in
         let more = each_more (In through) i span span in
         subst (λ n. Decides (bit (bit_and along (along / 2 ^ span)) i) (Each n (In through) i)) e

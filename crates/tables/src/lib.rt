@@ -1,4 +1,6 @@
 // The table of formulas, each with one number; recorded states, and rows.
+#![tactic(auto)]
+
 mod number;
 mod rows;
 mod sequent;

@@ -1,6 +1,6 @@
 -- The opposite of a part stands for the opposite of its formula. Assumes nothing.
 use Rattle.std.proofs.Common.{◌≡◌, ℕ, Bool, true, false, not, List, sym, refl}
-use Rattle.pltl.specs.Formulas.{Formula, opposite}
+use Rattle.pltl.specs.Formulas.{opposite}
 use Rattle.pltl.proofs.Opposites.{opposite_opposite}
 use Rattle.texts.specs.declared.nodes.Node.{Node}
 use Rattle.texts.specs.declared.normal.Part.{Part}

@@ -5,7 +5,7 @@ use Rattle.pltl.specs.Formulas.{Tree, one, zero, letter, not, next, always, even
 use Rattle.texts.specs.declared.Sign.{Sign}
 use Rattle.texts.specs.declared.Sign.TheVariants.{Not, Next, Always, Eventually, Until, Release, And, Or, Minus, Greater, Open, Close, One, Zero, Letter, Other}
 use Rattle.texts.specs.declared.faults.TextFault.{TextFault}
-use Rattle.texts.specs.declared.faults.TextFault.TheVariants.{Empty, TooLong, Unexpected, Incomplete, Full}
+use Rattle.texts.specs.declared.faults.TextFault.TheVariants.{Empty, TooLong, Unexpected, Incomplete}
 use Rattle.texts.specs.Signs.{sign_of}
 
 abbrev pub Pending : Type 0

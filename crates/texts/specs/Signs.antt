@@ -1,5 +1,5 @@
 -- Which sign a byte is. Assumes nothing.
-use Rattle.std.specs.Prelude.{ℕ, ◌-◌, Bool, cond, ◌&&◌, List, [], ◌∷◌, ◌==◌, nat_le}
+use Rattle.std.specs.Prelude.{ℕ, ◌-◌, cond, ◌&&◌, List, [], ◌∷◌, ◌==◌, nat_le}
 use Rattle.texts.specs.declared.Sign.{Sign}
 use Rattle.texts.specs.declared.Sign.TheVariants.{Not, Next, Always, Eventually, Until, Release, And, Or, Minus, Greater, Open, Close, One, Zero, Letter, Other}
 

@@ -1,4 +1,6 @@
 // Formula texts: which sign a byte is, the five levels of the grammar, and the normal form of what was read.
+#![tactic(auto)]
+
 mod faults;
 mod levels;
 mod nodes;

@@ -1,4 +1,6 @@
 // Kit `u`: unit closure.
+#![tactic(auto)]
+
 ghost use Rattle.std.specs.Prelude.{◌≡◌};
 ghost use Rattle.kits.specs.Names.{lookup};
 ghost use Rattle.units.specs.UnitRule.{unit_knows, unit_names, unit_allows};

@@ -8,4 +8,4 @@ returns c =
     let bs = c.args.bytes.now in
     let at = c.args.at in
     let k : at + length bs - at ≡ length bs = omega arith in
-    record { value = refl; after = ap (λ l. take at xs ++ (l ++ drop (at + length bs - at) (drop at xs))) c.copy-from-slice.ensures.after ∙ overwritten_part xs bs at (at + length bs - at) k }
+    record { value = refl; after = ap (λ l. take at xs ++ (l ++ drop (at + length bs - at) (drop at xs))) c.copy_from_slice.ensures.after ∙ overwritten_part xs bs at (at + length bs - at) k }

@@ -2,15 +2,15 @@ use Rattle.std.proofs.Common.{◌∙◌, arith}
 use Rattle.casefile.proofs.Serving.{left_one, room_one, served_on, line_short}
 use Rattle.casefile.proofs.sheet.draft_lines.Goals as goal
 
-pub put-answer-at-requires : goal.put-answer-at-requires
-put-answer-at-requires g c =
+pub put_answer-at-requires : goal.put_answer-at-requires
+put_answer-at-requires g c =
     let n = c.in-Some.ensures in
     room_one c.requires.ended c.loop-line.invariant (record { same = n.file; some = n.some; passed = n.passed }) c.requires.room
 
 pub loop-line-preserved : goal.loop-line-preserved
 loop-line-preserved g c =
     let n = c.in-Some.ensures in
-    let w = c.put-answer-at.ensures in
+    let w = c.put_answer-at.ensures in
     served_on c.requires.ended c.loop-line.invariant (record { same = n.file; some = n.some; passed = n.passed }) w.kept w.ahead w.room
 
 pub returns-in-Ok-Seal : goal.returns-in-Ok-Seal
@@ -24,10 +24,10 @@ returns-in-Ok-Seal g c =
       kept = s.kept;
     }
 
-pub put-fault-requires : goal.put-fault-requires
-put-fault-requires g c =
+pub put_fault-requires : goal.put_fault-requires
+put_fault-requires g c =
     let n = c.in-Some.ensures in
-    let l = c.next-line.new.self in
+    let l = c.next_line.new.self in
     let short = line_short c.requires.ended c.loop-line.invariant (record { same = n.file; some = n.some; passed = n.passed }) l.counted l.inside in
     record {
       room = room_one c.requires.ended c.loop-line.invariant (record { same = n.file; some = n.some; passed = n.passed }) c.requires.room;
@@ -37,6 +37,6 @@ put-fault-requires g c =
 pub returns-in-Err : goal.returns-in-Err
 returns-in-Err g c =
     let n = c.in-Some.ensures in
-    let w = c.put-fault.ensures in
+    let w = c.put_fault.ensures in
     let s = served_on c.requires.ended c.loop-line.invariant (record { same = n.file; some = n.some; passed = n.passed }) w.kept w.ahead w.room in
     record { file = s.same; room = omega (arith, s.left); ahead = s.ahead; kept = s.kept }

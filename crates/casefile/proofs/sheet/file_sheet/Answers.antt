@@ -4,29 +4,29 @@ use Rattle.casefile.specs.Sheets.{LinesEnd}
 use Rattle.casefile.proofs.Serving.{first_room}
 use Rattle.casefile.proofs.sheet.file_sheet.Goals as goal
 
-pub kit-sheet-requires : goal.kit-sheet-requires
-kit-sheet-requires c =
+pub kit_sheet-requires : goal.kit_sheet-requires
+kit_sheet-requires c =
     let n = c.in-Some.ensures in
     let m = c.new-lines.ensures in
     let room = first_room c.requires.ended m.file m.at (record { same = n.file; some = n.some; passed = n.passed }) in
     record { ended = subst LinesEnd (sym (n.file ∙ m.file)) c.requires.ended; room = omega (arith, room, c.requires.room); few = omega (arith, room, c.requires.few) }
 
-pub kit-sheet-requires-in-Ok-Units : goal.kit-sheet-requires-in-Ok-Units
-kit-sheet-requires-in-Ok-Units c =
+pub kit_sheet-requires-in-Ok-Units : goal.kit_sheet-requires-in-Ok-Units
+kit_sheet-requires-in-Ok-Units c =
     let n = c.in-Some.ensures in
     let m = c.new-lines.ensures in
     let room = first_room c.requires.ended m.file m.at (record { same = n.file; some = n.some; passed = n.passed }) in
     record { ended = subst LinesEnd (sym (n.file ∙ m.file)) c.requires.ended; room = omega (arith, room, c.requires.room); few = omega (arith, room, c.requires.few) }
 
-pub kit-sheet-requires-in-Ok-Both : goal.kit-sheet-requires-in-Ok-Both
-kit-sheet-requires-in-Ok-Both c =
+pub kit_sheet-requires-in-Ok-Both : goal.kit_sheet-requires-in-Ok-Both
+kit_sheet-requires-in-Ok-Both c =
     let n = c.in-Some.ensures in
     let m = c.new-lines.ensures in
     let room = first_room c.requires.ended m.file m.at (record { same = n.file; some = n.some; passed = n.passed }) in
     record { ended = subst LinesEnd (sym (n.file ∙ m.file)) c.requires.ended; room = omega (arith, room, c.requires.room); few = omega (arith, room, c.requires.few) }
 
-pub put-fault-requires : goal.put-fault-requires
-put-fault-requires c =
+pub put_fault-requires : goal.put_fault-requires
+put_fault-requires c =
     let n = c.in-Some.ensures in
     let m = c.new-lines.ensures in
     let room = first_room c.requires.ended m.file m.at (record { same = n.file; some = n.some; passed = n.passed }) in
@@ -37,26 +37,26 @@ returns-in-Ok-Sequents c =
     let n = c.in-Some.ensures in
     let m = c.new-lines.ensures in
     let room = first_room c.requires.ended m.file m.at (record { same = n.file; some = n.some; passed = n.passed }) in
-    MatchResult-weaker c.kit-sheet.result c.kit-sheet.ensures (λ x p. (omega (arith, room, p.0), p.1)) (λ y q. q)
+    MatchResult-weaker c.kit_sheet.result c.kit_sheet.ensures (λ x p. (omega (arith, room, p.0), p.1)) (λ y q. q)
 
 pub returns-in-Ok-Units : goal.returns-in-Ok-Units
 returns-in-Ok-Units c =
     let n = c.in-Some.ensures in
     let m = c.new-lines.ensures in
     let room = first_room c.requires.ended m.file m.at (record { same = n.file; some = n.some; passed = n.passed }) in
-    MatchResult-weaker c.kit-sheet-in-Ok-Units.result c.kit-sheet-in-Ok-Units.ensures (λ x p. (omega (arith, room, p.0), p.1)) (λ y q. q)
+    MatchResult-weaker c.kit_sheet-in-Ok-Units.result c.kit_sheet-in-Ok-Units.ensures (λ x p. (omega (arith, room, p.0), p.1)) (λ y q. q)
 
 pub returns-in-Ok-Both : goal.returns-in-Ok-Both
 returns-in-Ok-Both c =
     let n = c.in-Some.ensures in
     let m = c.new-lines.ensures in
     let room = first_room c.requires.ended m.file m.at (record { same = n.file; some = n.some; passed = n.passed }) in
-    MatchResult-weaker c.kit-sheet-in-Ok-Both.result c.kit-sheet-in-Ok-Both.ensures (λ x p. (omega (arith, room, p.0), p.1)) (λ y q. q)
+    MatchResult-weaker c.kit_sheet-in-Ok-Both.result c.kit_sheet-in-Ok-Both.ensures (λ x p. (omega (arith, room, p.0), p.1)) (λ y q. q)
 
 pub returns-in-Err : goal.returns-in-Err
 returns-in-Err c =
     let n = c.in-Some.ensures in
     let m = c.new-lines.ensures in
-    let w = c.put-fault.ensures in
+    let w = c.put_fault.ensures in
     let room = first_room c.requires.ended m.file m.at (record { same = n.file; some = n.some; passed = n.passed }) in
     (omega (arith, room, w.room), w.kept)

@@ -11,7 +11,7 @@ on {xs} {zs = zs} {us = us} {k = k} start i inv same is room ahead kept =
 
 pub loop-i-preserved : goal.loop-i-preserved
 loop-i-preserved c =
-    elim c.match-answer-line.branch [
-      | in-Ok w ↦ on c.args.start c.loop-i.i c.loop-i.invariant w.out-is w.at-is w.put-answer-at.ensures.room w.put-answer-at.ensures.ahead w.put-answer-at.ensures.kept
-      | in-Err w ↦ on c.args.start c.loop-i.i c.loop-i.invariant w.out-is w.at-is w.put-fault-at.ensures.room w.put-fault-at.ensures.ahead w.put-fault-at.ensures.kept
+    elim c.match-answer_line.branch [
+      | in-Ok w ↦ on c.args.start c.loop-i.i c.loop-i.invariant w.out-is w.at-is w.put_answer-at.ensures.room w.put_answer-at.ensures.ahead w.put_answer-at.ensures.kept
+      | in-Err w ↦ on c.args.start c.loop-i.i c.loop-i.invariant w.out-is w.at-is w.put_fault-at.ensures.room w.put_fault-at.ensures.ahead w.put_fault-at.ensures.kept
     ]

@@ -7,4 +7,4 @@ pub returns-in-Some : goal.returns-in-Some
 returns-in-Some c = sym (found_first (take 6 sequent_names) (drop 6 sequent_names) c.args.name.now c.in-Some.n (sym c.in-Some.ensures))
 
 pub returns-in-None : goal.returns-in-None
-returns-in-None c = c.find-later.ensures ∙ sym (found_later (take 6 sequent_names) (drop 6 sequent_names) c.args.name.now (sym c.in-None.ensures))
+returns-in-None c = c.find_later.ensures ∙ sym (found_later (take 6 sequent_names) (drop 6 sequent_names) c.args.name.now (sym c.in-None.ensures))

@@ -31,11 +31,11 @@ principal c =
       without = c.without-d.ensures;
     }
 
-pub returns-in-default-plan : goal.returns-in-default-plan
-returns-in-default-plan c =
+pub returns-in_default-plan : goal.returns-in_default-plan
+returns-in_default-plan c =
     let fs = listed c.args.table.now in (
       λ z. absurd (false≢true z),
-      λ s. absurd (c.in-default-plan.ensures fs c.args.step.now.conclusion (principal (goal.at.returns-in-default-plan c).After-plan) (map (formulas_in fs) c.args.premises.now) s.1),
+      λ s. absurd (c.in_default-plan.ensures fs c.args.step.now.conclusion (principal (goal.at.returns-in_default-plan c).After-plan) (map (formulas_in fs) c.args.premises.now) s.1),
     )
 
 pub fit-requires : goal.fit-requires

@@ -16,8 +16,8 @@ returns-then-step-eq0 c =
     let m = numbered fs st.principal in
     let fits : principal_fits fs st.rule st.principal ≡ true = cond-true (eqb st.rule 11) (eqb st.principal 0) (ltb st.principal (length fs)) (eq-eqb st.rule 11 is) ∙ eq-eqb st.principal 0 c.if-step-eq0.true in
     same_tests _ _
-    (λ e. is_allowed fs model fits (subst (λ n. Rule model.conclusion m n model.premises) (sym is) ((c.come-next.ensures m).0 e)))
-    (λ a. (c.come-next.ensures m).1 (subst (λ n. Rule model.conclusion m n model.premises) is (allowed_is fs model a).1))
+    (λ e. is_allowed fs model fits (subst (λ n. Rule model.conclusion m n model.premises) (sym is) ((c.come_next.ensures m).0 e)))
+    (λ a. (c.come_next.ensures m).1 (subst (λ n. Rule model.conclusion m n model.premises) is (allowed_is fs model a).1))
 
 pub returns-else-step-eq0 : goal.returns-else-step-eq0
 returns-else-step-eq0 c =
@@ -36,5 +36,5 @@ returns-else-step-eq-NEXT c =
     let model = step_model fs st c.args.premises.now in
     let fits = cond-false (eqb st.rule 11) (eqb st.principal 0) (ltb st.principal (length fs)) (ne_eqb st.rule 11 c.if-step-eq-NEXT.false) in
     same_tests _ _
-    (λ e. let h = c.has-principal.ensures.0 e in is_allowed fs model (fits ∙ lt-ltb st.principal (length fs) h.0) h.1)
-    (λ a. let h = allowed_is fs model a in c.has-principal.ensures.1 (ltb-true st.principal (length fs) (sym fits ∙ h.0), h.1))
+    (λ e. let h = c.has_principal.ensures.0 e in is_allowed fs model (fits ∙ lt-ltb st.principal (length fs) h.0) h.1)
+    (λ a. let h = allowed_is fs model a in c.has_principal.ensures.1 (ltb-true st.principal (length fs) (sym fits ∙ h.0), h.1))

@@ -56,7 +56,7 @@ loop-k-preserved c =
     let k = c.in-Some.k.0 in
     let h = c.in-Some.ensures in
     let inv = c.loop-k.invariant in
-    let w = c.with-sides-found.ensures in (
+    let w = c.with_sides-found.ensures in (
       λ g i. w.kept g (inv.0 g i),
       λ j lt m.
           ⊎_elim
@@ -92,7 +92,7 @@ returns c =
     let sides : (x y : Formula) → Or x y ∈ formulas_in fs s → (x ∈ formulas_in fs s) × (y ∈ formulas_in fs s) =
     λ x y i.
     let r = number_from_in fs s (Or x y) i in
-    let le : c.loop-k.at ≤ r.0 = ⊎_elim (λ lt. absurd (both_ways _ (c.in-default.ensures r.0 lt) r.2)) (λ ge. ge) (cases_lt r.0 c.loop-k.at) in
+    let le : c.loop-k.at ≤ r.0 = ⊎_elim (λ lt. absurd (both_ways _ (c.in_default.ensures r.0 lt) r.2)) (λ ge. ge) (cases_lt r.0 c.loop-k.at) in
     inv.2 r.0 le r.1 r.2 x y r.3
     in
     λ k lt. (

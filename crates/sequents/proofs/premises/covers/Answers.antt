@@ -12,8 +12,8 @@ use Rattle.kits.proofs.InSequents.{in_from_number, number_from_in, table_lawful,
 use Rattle.sequents.proofs.Passes.{passed_more, passed_all}
 use Rattle.sequents.proofs.premises.covers.Goals as goal
 
-pub returns-then-not-is-covered : goal.returns-then-not-is-covered
-returns-then-not-is-covered c =
+pub returns-then-not-is_covered : goal.returns-then-not-is_covered
+returns-then-not-is_covered c =
     let t = c.args.table.now in
     let fs = listed t in
     let s = c.alternatives-alternatives.result in
@@ -22,8 +22,8 @@ returns-then-not-is-covered c =
     let n = numbered fs c.args.n.0 in (
       λ z. absurd (false≢true z),
       λ covers.
-          absurd (both_ways _ c.if-not-is-covered.true
-          (c.is-covered.ensures.1
+          absurd (both_ways _ c.if-not-is_covered.true
+          (c.is_covered.ensures.1
           (λ lt plain.
           let named = named_beside fs (table_lawful t) (table_even t) k lt in
           let alternative = covers (numbered fs k) (in_from_number fs c.args.d.now k lt h.2) plain in
@@ -38,7 +38,7 @@ loop-k-preserved c =
     let h = c.in-Some.ensures in
     let inv = c.loop-k.invariant in
     let P : ℕ → Type 0 = λ j. j < length fs → (IsAlways (numbered fs j) → ⊥) → opposite (numbered fs j) ∈ formulas_in fs c.alternatives-alternatives.result in
-    (omega (arith, h.1), passed_more c.args.d.now P c.loop-k.at inv.1 c.in-Some.k.0 h.3 (c.is-covered.ensures.0 c.if-not-is-covered.false))
+    (omega (arith, h.1), passed_more c.args.d.now P c.loop-k.at inv.1 c.in-Some.k.0 h.3 (c.is_covered.ensures.0 c.if-not-is_covered.false))
 
 pub returns : goal.returns
 returns c =
@@ -49,7 +49,7 @@ returns c =
     let P : ℕ → Type 0 = λ j. j < length fs → (IsAlways (numbered fs j) → ⊥) → opposite (numbered fs j) ∈ formulas_in fs s in (
       λ z g i plain.
           let r = number_from_in fs d g i in
-          let o = passed_all d P c.loop-k.at c.loop-k.invariant.1 c.in-default.ensures r.0 r.2 r.1 (λ a. plain (a.0, sym r.3 ∙ a.1)) in
+          let o = passed_all d P c.loop-k.at c.loop-k.invariant.1 c.in_default.ensures r.0 r.2 r.1 (λ a. plain (a.0, sym r.3 ∙ a.1)) in
           let q = number_from_in fs s (opposite (numbered fs r.0)) o in
           subst (λ x. Alternative x n) (q.3 ∙ ap opposite r.3) ((c.alternatives-alternatives.ensures q.0 q.1).0 q.2),
       λ z. refl,

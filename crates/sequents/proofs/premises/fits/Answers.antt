@@ -8,8 +8,8 @@ use Rattle.kits.proofs.InSequents.{in_from_number, number_from_in, member_from_i
 use Rattle.sequents.proofs.Passes.{passed_all}
 use Rattle.sequents.proofs.premises.fits.Goals as goal
 
-pub returns-then-not-is-added : goal.returns-then-not-is-added
-returns-then-not-is-added c =
+pub returns-then-not-is_added : goal.returns-then-not-is_added
+returns-then-not-is_added c =
     let t = c.args.table.now in
     let fs = listed t in
     let set = c.args.room.set in
@@ -18,8 +18,8 @@ returns-then-not-is-added c =
     let here = and_parts (member premise k) (not (member set k)) (sym (c.minus-beside.ensures k) ∙ c.in-Some.ensures.2) in (
       λ z. absurd (false≢true z),
       λ fits.
-          absurd (both_ways _ c.if-not-is-added.true
-          (c.is-added.ensures.1
+          absurd (both_ways _ c.if-not-is_added.true
+          (c.is_added.ensures.1
           (λ lt.
           ⊎_elim
           (λ i. absurd (both_ways _ (not-true _ here.1) (member_from_in fs (table_lawful t) set k lt i)))
@@ -40,7 +40,7 @@ returns c =
           (λ m. inl (subst (Inside fs set) r.3 (in_from_number fs set r.0 r.1 m)))
           (λ m.
           let b = c.minus-beside.ensures r.0 ∙ and_from _ _ r.2 (not_from_false _ m) in
-          inr (subst A r.3 (passed_all c.minus-beside.result P c.loop-k.at c.loop-k.invariant.1 c.in-default.ensures r.0 b r.1)))
+          inr (subst A r.3 (passed_all c.minus-beside.result P c.loop-k.at c.loop-k.invariant.1 c.in_default.ensures r.0 b r.1)))
           (cases_Bool (member set r.0)),
       λ z. refl,
     )

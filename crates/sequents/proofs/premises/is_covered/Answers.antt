@@ -9,8 +9,8 @@ use Rattle.kits.proofs.InSequents.{in_from_number, member_from_in, table_lawful,
 use Rattle.sequents.specs.ShapesOf.{shape_of}
 use Rattle.sequents.proofs.premises.is_covered.Goals as goal
 
-pub returns-in-default-shape : goal.returns-in-default-shape
-returns-in-default-shape c =
+pub returns-in_default-shape : goal.returns-in_default-shape
+returns-in_default-shape c =
     let t = c.args.table.now in
     let fs = listed t in
     let s = c.args.alternatives.now in
@@ -21,5 +21,5 @@ returns-in-default-shape c =
       λ e lt plain. subst (Inside fs s) named.1 (in_from_number fs s (beside k) named.0 (sym is ∙ e)),
       λ all.
           is ∙ member_from_in fs (table_lawful t) s (beside k) named.0
-          (subst (Inside fs s) (sym named.1) (all h.0 (λ a. c.in-default-shape.not-Always _ (shape_of fs c.in-Some.shape (Always a.0) (h.1 ∙ a.1))))),
+          (subst (Inside fs s) (sym named.1) (all h.0 (λ a. c.in_default-shape.not-Always _ (shape_of fs c.in-Some.shape (Always a.0) (h.1 ∙ a.1))))),
     )

@@ -23,8 +23,8 @@ loop-k-preserved c =
     let k = c.in-Some.k.0 in
     let h = c.in-Some.ensures in
     let inv = c.loop-k.invariant in
-    let more = c.with-next-found.ensures in
-    let P : ℕ → Type 0 = λ j. j < length fs → (g : Formula) → numbered fs j ≡ Next g → g ∈ formulas_in fs c.with-next-found.result in (
+    let more = c.with_next-found.ensures in
+    let P : ℕ → Type 0 = λ j. j < length fs → (g : Formula) → numbered fs j ≡ Next g → g ∈ formulas_in fs c.with_next-found.result in (
       omega (arith, h.1),
       λ g i. ⊎_elim (inv.1 g) (λ n. subst (Inside fs s) n.1 (in_from_number fs s k n.0 h.2)) ((more g).0 i),
       passed_more s P c.loop-k.at (λ j lt m inside g e. (more g).1 (inl (inv.2 j lt m inside g e))) k h.3 (λ inside g e. (more g).1 (inr (inside, e))),
@@ -42,5 +42,5 @@ returns c =
       λ m. inv.1 (numbered fs k) (in_from_number fs found k lt m),
       λ i.
           let r = number_from_in fs s (Next (numbered fs k)) i in
-          member_from_in fs (table_lawful t) found k lt (passed_all s P c.loop-k.at inv.2 c.in-default.ensures r.0 r.2 r.1 (numbered fs k) r.3),
+          member_from_in fs (table_lawful t) found k lt (passed_all s P c.loop-k.at inv.2 c.in_default.ensures r.0 r.2 r.1 (numbered fs k) r.3),
     )

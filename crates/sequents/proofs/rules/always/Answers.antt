@@ -6,7 +6,7 @@ returns-in-Always c =
     λ fs conclusion p.
     always_plan fs conclusion c.args.m c.args.shape c.args.d p c.in-Always.a c.in-Always.is
     c.with.result c.with.ensures
-    c.with-next.result c.with-next.ensures
+    c.with_next.result c.with_next.ensures
 
-pub returns-in-default : goal.returns-in-default
-returns-in-default c = λ fs conclusion p. always_none fs conclusion c.args.m c.args.shape c.args.d p c.in-default.not-Always
+pub returns-in_default : goal.returns-in_default
+returns-in_default c = λ fs conclusion p. always_none fs conclusion c.args.m c.args.shape c.args.d p c.in_default.not-Always

@@ -8,5 +8,5 @@ returns-in-And c =
     c.with.result c.with-in-And.result c.with.ensures c.with-in-And.ensures
     c.of.result c.of.ensures
 
-pub returns-in-default : goal.returns-in-default
-returns-in-default c = λ m fs conclusion p. and_none fs conclusion m c.args.shape c.args.d p c.in-default.not-And
+pub returns-in_default : goal.returns-in_default
+returns-in_default c = λ m fs conclusion p. and_none fs conclusion m c.args.shape c.args.d p c.in_default.not-And

@@ -8,5 +8,5 @@ returns-in-Or c =
     c.with.result c.with-in-Or.result c.with.ensures c.with-in-Or.ensures
     c.of.result c.of-in-Or.result c.of.ensures c.of-in-Or.ensures
 
-pub returns-in-default : goal.returns-in-default
-returns-in-default c = λ m fs conclusion p. or_none fs conclusion m c.args.shape c.args.d p c.in-default.not-Or
+pub returns-in_default : goal.returns-in_default
+returns-in_default c = λ m fs conclusion p. or_none fs conclusion m c.args.shape c.args.d p c.in_default.not-Or

@@ -6,7 +6,7 @@ returns-in-Release c =
     λ fs conclusion p.
     release_plan fs conclusion c.args.m c.args.shape c.args.d p c.in-Release.a c.in-Release.b c.in-Release.is
     c.with.result c.with-in-Release.result c.with-in-Release-2.result c.with.ensures c.with-in-Release.ensures c.with-in-Release-2.ensures
-    c.of.result c.with-next.result c.of.ensures c.with-next.ensures
+    c.of.result c.with_next.result c.of.ensures c.with_next.ensures
 
-pub returns-in-default : goal.returns-in-default
-returns-in-default c = λ fs conclusion p. release_none fs conclusion c.args.m c.args.shape c.args.d p c.in-default.not-Release
+pub returns-in_default : goal.returns-in_default
+returns-in_default c = λ fs conclusion p. release_none fs conclusion c.args.m c.args.shape c.args.d p c.in_default.not-Release

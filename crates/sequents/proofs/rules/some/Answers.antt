@@ -6,7 +6,7 @@ returns-in-Eventually c =
     λ fs conclusion p.
     some_plan fs conclusion c.args.m c.args.shape c.args.d p c.in-Eventually.a c.in-Eventually.is
     c.with.result c.with.ensures
-    c.of.result c.with-next.result c.of.ensures c.with-next.ensures
+    c.of.result c.with_next.result c.of.ensures c.with_next.ensures
 
-pub returns-in-default : goal.returns-in-default
-returns-in-default c = λ fs conclusion p. some_none fs conclusion c.args.m c.args.shape c.args.d p c.in-default.not-Eventually
+pub returns-in_default : goal.returns-in_default
+returns-in_default c = λ fs conclusion p. some_none fs conclusion c.args.m c.args.shape c.args.d p c.in_default.not-Eventually

@@ -9,5 +9,5 @@ returns-in-Eventually c =
     c.with.result c.with.ensures
     c.of.result _ c.of.ensures refl
 
-pub returns-in-default : goal.returns-in-default
-returns-in-default c = λ m fs conclusion p. some+_none fs conclusion m c.args.shape c.args.d p c.in-default.not-Eventually
+pub returns-in_default : goal.returns-in_default
+returns-in_default c = λ m fs conclusion p. some+_none fs conclusion m c.args.shape c.args.d p c.in_default.not-Eventually

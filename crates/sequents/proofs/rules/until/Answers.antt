@@ -6,7 +6,7 @@ returns-in-Until c =
     λ fs conclusion p.
     until_plan fs conclusion c.args.m c.args.shape c.args.d p c.in-Until.a c.in-Until.b c.in-Until.is
     c.with.result c.with-in-Until.result c.with.ensures c.with-in-Until.ensures
-    c.of.result c.with-next.result c.of.ensures c.with-next.ensures
+    c.of.result c.with_next.result c.of.ensures c.with_next.ensures
 
-pub returns-in-default : goal.returns-in-default
-returns-in-default c = λ fs conclusion p. until_none fs conclusion c.args.m c.args.shape c.args.d p c.in-default.not-Until
+pub returns-in_default : goal.returns-in_default
+returns-in_default c = λ fs conclusion p. until_none fs conclusion c.args.m c.args.shape c.args.d p c.in_default.not-Until

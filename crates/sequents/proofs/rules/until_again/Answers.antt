@@ -9,5 +9,5 @@ returns-in-Until c =
     c.with.result c.with-in-Until.result c.with.ensures c.with-in-Until.ensures
     c.of.result _ c.of.ensures refl
 
-pub returns-in-default : goal.returns-in-default
-returns-in-default c = λ m fs conclusion p. until+_none fs conclusion m c.args.shape c.args.d p c.in-default.not-Until
+pub returns-in_default : goal.returns-in_default
+returns-in_default c = λ m fs conclusion p. until+_none fs conclusion m c.args.shape c.args.d p c.in_default.not-Until

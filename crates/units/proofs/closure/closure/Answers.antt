@@ -12,13 +12,13 @@ use Rattle.units.proofs.closure.closure.Goals as goal
 pub loop-grown-init : goal.loop-grown-init
 loop-grown-init c = (λ j m. m, λ g i. given i)
 
-pub returns-then-is-within : goal.returns-then-is-within
-returns-then-is-within c =
+pub returns-then-is_within : goal.returns-then-is_within
+returns-then-is_within c =
     let fs = listed c.args.table.now in
     let s = c.args.set in
     let closed = c.loop-grown.closed in
     let grown = c.round-grown.result in
-    let back = inside_formulas fs grown closed (c.is-within.ensures.0 c.if-is-within.true) in
+    let back = inside_formulas fs grown closed (c.is_within.ensures.0 c.if-is_within.true) in
     let full : (g : Formula) → g ∈ formulas_in fs closed → Brought (formulas_in fs closed) (formulas_in fs closed) g =
     λ g i.
     let k = number_from_in fs closed g i in
@@ -33,7 +33,7 @@ returns-then-is-within c =
 pub loop-grown-smaller : goal.loop-grown-smaller
 loop-grown-smaller c =
     missing_falls c.loop-grown.closed c.round-grown.result c.round-grown.ensures.kept
-    (λ all. false≢true (sym c.if-is-within.false ∙ c.is-within.ensures.1 all))
+    (λ all. false≢true (sym c.if-is_within.false ∙ c.is_within.ensures.1 all))
 
 pub loop-grown-preserved : goal.loop-grown-preserved
 loop-grown-preserved c = (

@@ -41,5 +41,5 @@ returns c =
       λ h.
           let m = member_from_in (listed t) (table_lawful t) s h.0 h.1 h.2 in
           let o = beside_from_opposite (listed t) (table_lawful t) (table_even t) s h.0 h.1 h.3 in
-          absurd (⊎_elim (λ l. c.loop-k.invariant h.0 l h.1 m o) (λ g. true≢false (sym m ∙ c.in-default.ensures h.0 g)) (cases_lt h.0 c.loop-k.at)),
+          absurd (⊎_elim (λ l. c.loop-k.invariant h.0 l h.1 m o) (λ g. true≢false (sym m ∙ c.in_default.ensures h.0 g)) (cases_lt h.0 c.loop-k.at)),
     )

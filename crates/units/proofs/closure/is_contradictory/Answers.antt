@@ -27,7 +27,7 @@ returns-else-contains c =
     λ i. true≢false (sym (member_from_in fs (table_lawful t) closed 1 second (subst (λ g. g ∈ formulas_in fs closed) (sym (table_lawful t).false_second) i)) ∙ sym c.if-contains.ensures)
     in (
       λ e.
-          let two = c.has-opposites.ensures.0 e in
+          let two = c.has_opposites.ensures.0 e in
           let g = numbered fs two.0 in
           inr (g, (c.closure-closed.ensures g).0 two.2, (c.closure-closed.ensures (opposite g)).0 two.3),
       ⊎_elim
@@ -36,7 +36,7 @@ returns-else-contains c =
           let i = (c.closure-closed.ensures h.0).1 h.1 in
           let o = (c.closure-closed.ensures (opposite h.0)).1 h.2 in
           let k = number_from_in fs closed h.0 i in
-          c.has-opposites.ensures.1 (
+          c.has_opposites.ensures.1 (
             k.0,
             k.1,
             in_from_number fs closed k.0 k.1 k.2,

@@ -11,10 +11,10 @@ loop-k-preserved c =
     let fs = listed c.args.table.now in
     let s = c.args.set in
     let old = c.loop-k.grown in
-    let new = c.with-brought-grown.result in
+    let new = c.with_brought-grown.result in
     let k = c.in-Some.k.0 in
     let found = c.in-Some.ensures in
-    let more = c.with-brought-grown.ensures in (
+    let more = c.with_brought-grown.ensures in (
       λ j m. more.kept j (c.loop-k.invariant.0 j m),
       λ Γ w. more.sound Γ (c.loop-k.invariant.1 Γ w),
       λ j lt in_table m. ⊎_elim

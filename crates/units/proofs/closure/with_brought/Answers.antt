@@ -39,5 +39,5 @@ returns-in-Or c =
     let found = c.in-Some.ensures in
     let is : f.Or (numbered (listed t) a) (numbered (listed t) b) ≡ numbered (listed t) k = subst (λ s. formula_over (listed t) s ≡ numbered (listed t) k) c.in-Or.is found.1 in
     let below = and_parts (ltb a k) (ltb b k) (subst (λ s. parts_below k s ≡ true) c.in-Or.is found.2) in
-    let g = or_gained (listed t) (table_few t) c.args.set k found.0 c.requires (table_lawful t) (table_even t) a b c.with-side.result c.with-side-in-Or.result is (ltb-true a k below.0) (ltb-true b k below.1) c.with-side.ensures c.with-side-in-Or.ensures in
+    let g = or_gained (listed t) (table_few t) c.args.set k found.0 c.requires (table_lawful t) (table_even t) a b c.with_side.result c.with_side-in-Or.result is (ltb-true a k below.0) (ltb-true b k below.1) c.with_side.ensures c.with_side-in-Or.ensures in
     record { kept = g.0; sound = g.1; brought = λ lt. g.2 }

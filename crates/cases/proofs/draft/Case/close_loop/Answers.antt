@@ -10,20 +10,20 @@ pub returns-in-Some : goal.returns-in-Some
 returns-in-Some g c =
     let m = case_model c.args.self.now in
     let found = c.in-Some.ensures in
-    let a = loop_refused m c.args.back c.in-ok-count.count c.in-Some.number c.in-ok-count.ensures.value found in
+    let a = loop_refused m c.args.back c.in_ok-count.count c.in-Some.number c.in_ok-count.ensures.value found in
     record { value = a.0; after = a.1; means = λ u p q. refused_means m c.args.back u p q c.in-Some.number (sym found); kit = refl }
 
-pub invariant-of-self : goal.invariant-of-self
-invariant-of-self g c =
+pub invariant_of-self : goal.invariant_of-self
+invariant_of-self g c =
     let t = c.args.self.now in
     let m = case_model t in
-    let none = c.in-default.ensures in
-    let a = loop_taken m c.args.back c.in-ok-count.count _ c.in-ok-count.ensures.value c.in-ok-count.ensures.after none in
-    (t.room, (t.few, (∣ subst Good (sym a.1) (good_loop m c.args.back (good_from t.good)) ∣₁, tt)))
+    let none = c.in_default.ensures in
+    let a = loop_taken m c.args.back c.in_ok-count.count _ c.in_ok-count.ensures.value c.in_ok-count.ensures.after none in
+    record { room = t.room; few = t.few; good = ∣ subst Good (sym a.1) (good_loop m c.args.back (good_from t.good)) ∣₁ }
 
 pub returns : goal.returns
 returns g c =
     let m = case_model c.args.self.now in
-    let none = c.in-default.ensures in
-    let a = loop_taken m c.args.back c.in-ok-count.count _ c.in-ok-count.ensures.value c.in-ok-count.ensures.after none in
-    record { value = a.0; after = a.1; means = λ u p q. taken_means m c.args.back u p q c.in-ok-count.count (sym none); kit = refl }
+    let none = c.in_default.ensures in
+    let a = loop_taken m c.args.back c.in_ok-count.count _ c.in_ok-count.ensures.value c.in_ok-count.ensures.after none in
+    record { value = a.0; after = a.1; means = λ u p q. taken_means m c.args.back u p q c.in_ok-count.count (sym none); kit = refl }

@@ -15,9 +15,9 @@ use Rattle.cases.proofs.draft.Case.has_refuted_roots.Goals as goal
 nil : Sequent
 nil = record { words = [] }
 
-pub returns-then-is-within : goal.returns-then-is-within
+pub returns-then-is_within : goal.returns-then-is_within
 unfolding nil
-returns-then-is-within g c =
+returns-then-is_within g c =
     let t = c.args.self.now in
     let m = case_model t in
     let items = vec_items t.steps in
@@ -26,12 +26,12 @@ returns-then-is-within g c =
     let inside : i < length items = omega (arith, ap length is) in
     let few : length m.formulas ≤ 512 = omega (arith, length_formulas (vec_items t.table.shapes), t.table.shapes.ok.0, t.table.few) in
     let x = get_or items i nil in
-    let tells = subst (λ l. Decides c.is-within.result ((k : ℕ) → member (get_or l i nil) k ≡ true → member c.sequent-roots.result k ≡ true)) is c.is-within.ensures in
+    let tells = subst (λ l. Decides c.is_within.result ((k : ℕ) → member (get_or l i nil) k ≡ true → member c.sequent-roots.result k ≡ true)) is c.is_within.ensures in
     let here = get_or-map member items i nil nothing inside in
     let taken : i < length m.steps = omega (arith, length-map items member) in
-    let only = within_is_only_roots m (member x) (member c.sequent-roots.result) c.is-within.result few c.sequent-roots.ensures (λ k h. (good_from t.good).inside i k taken (ap (λ S. S k) here ∙ h)) tells in
+    let only = within_is_only_roots m (member x) (member c.sequent-roots.result) c.is_within.result few c.sequent-roots.ensures (λ k h. (good_from t.good).inside i k taken (ap (λ S. S k) here ∙ h)) tells in
     let more = at_drop_more (λ l. some_of (only_roots m) (map member l)) items i nil inside in
-    sym (sym c.loop-conclusion.invariant ∙ more ∙ or_left _ _ (only ∙ c.if-is-within.true))
+    sym (sym c.loop-conclusion.invariant ∙ more ∙ or_left _ _ (only ∙ c.if-is_within.true))
 
 pub loop-conclusion-preserved : goal.loop-conclusion-preserved
 unfolding nil
@@ -44,12 +44,12 @@ loop-conclusion-preserved g c =
     let inside : i < length items = omega (arith, ap length is) in
     let few : length m.formulas ≤ 512 = omega (arith, length_formulas (vec_items t.table.shapes), t.table.shapes.ok.0, t.table.few) in
     let x = get_or items i nil in
-    let tells = subst (λ l. Decides c.is-within.result ((k : ℕ) → member (get_or l i nil) k ≡ true → member c.sequent-roots.result k ≡ true)) is c.is-within.ensures in
+    let tells = subst (λ l. Decides c.is_within.result ((k : ℕ) → member (get_or l i nil) k ≡ true → member c.sequent-roots.result k ≡ true)) is c.is_within.ensures in
     let here = get_or-map member items i nil nothing inside in
     let taken : i < length m.steps = omega (arith, length-map items member) in
-    let only = within_is_only_roots m (member x) (member c.sequent-roots.result) c.is-within.result few c.sequent-roots.ensures (λ k h. (good_from t.good).inside i k taken (ap (λ S. S k) here ∙ h)) tells in
+    let only = within_is_only_roots m (member x) (member c.sequent-roots.result) c.is_within.result few c.sequent-roots.ensures (λ k h. (good_from t.good).inside i k taken (ap (λ S. S k) here ∙ h)) tells in
     let more = at_drop_more (λ l. some_of (only_roots m) (map member l)) items i nil inside in
-    sym (ap (λ b. b || some_of (only_roots m) (map member (drop (i + 1) items))) (only ∙ c.if-is-within.false)) ∙ sym more ∙ c.loop-conclusion.invariant
+    sym (ap (λ b. b || some_of (only_roots m) (map member (drop (i + 1) items))) (only ∙ c.if-is_within.false)) ∙ sym more ∙ c.loop-conclusion.invariant
 
 pub returns : goal.returns
 returns g c =

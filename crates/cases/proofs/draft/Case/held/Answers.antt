@@ -5,8 +5,8 @@ use Rattle.cases.specs.Steps.{conclusion_of, nothing}
 use Rattle.cases.proofs.HandedSteps.{premises_few, premise_counted}
 use Rattle.cases.proofs.draft.Case.held.Goals as goal
 
-pub overflow-sub-premise : goal.overflow-sub-premise
-overflow-sub-premise g c = (premise_counted _ c.args.premises.now c.requires c.loop-i.i c.loop-i-test.true).0
+pub overflow_sub-premise : goal.overflow_sub-premise
+overflow_sub-premise g c = (premise_counted _ c.args.premises.now c.requires c.loop-i.i c.loop-i-test.true).0
 
 pub index-requires : goal.index-requires
 index-requires g c = let p = premise_counted _ c.args.premises.now c.requires c.loop-i.i c.loop-i-test.true in omega (arith, p.0, p.1)

@@ -13,14 +13,14 @@ held-premises-requires g c =
     let s = step_call_model c.args.step in
     let steps = c.args.self.now.steps in
     let same : length m.steps ≡ vec_len steps = omega (arith, steps.ok.0, length-map (vec_items steps) member) in
-    subst (λ n. premises_objection n s.premises ≡ None) same (premises_fit m s c.in-ok-conclusion.ensures.0)
+    subst (λ n. premises_objection n s.premises ≡ None) same (premises_fit m s c.in_ok-conclusion.ensures.0)
 
 pub returns-in-Unknown : goal.returns-in-Unknown
 returns-in-Unknown g c =
     let m = case_model c.args.self.now in
     let s = step_call_model c.args.step in
-    let told = c.in-ok-conclusion.ensures in
-    let read = read_by_sets m s (record { rule = s.rule; principal = s.principal; conclusion = c.in-ok-conclusion.conclusion }) (take (length s.premises) c.held-premises.result) refl refl (λ i k. told.1 k i) c.held-premises.ensures in
+    let told = c.in_ok-conclusion.ensures in
+    let read = read_by_sets m s (record { rule = s.rule; principal = s.principal; conclusion = c.in_ok-conclusion.conclusion }) (take (length s.premises) c.held-premises.result) refl refl (λ i k. told.1 k i) c.held-premises.ensures in
     objected_by_kit (kit_model g.K.Kit.knows g.K.Kit.allows c.args.self.now.kit) m s _ c.judge.result told.0 read c.judge.ensures
     ∙ ap (λ r. case_then_kit None (objected r)) c.in-Unknown.is
 
@@ -28,8 +28,8 @@ pub returns-in-NotAllowed : goal.returns-in-NotAllowed
 returns-in-NotAllowed g c =
     let m = case_model c.args.self.now in
     let s = step_call_model c.args.step in
-    let told = c.in-ok-conclusion.ensures in
-    let read = read_by_sets m s (record { rule = s.rule; principal = s.principal; conclusion = c.in-ok-conclusion.conclusion }) (take (length s.premises) c.held-premises.result) refl refl (λ i k. told.1 k i) c.held-premises.ensures in
+    let told = c.in_ok-conclusion.ensures in
+    let read = read_by_sets m s (record { rule = s.rule; principal = s.principal; conclusion = c.in_ok-conclusion.conclusion }) (take (length s.premises) c.held-premises.result) refl refl (λ i k. told.1 k i) c.held-premises.ensures in
     objected_by_kit (kit_model g.K.Kit.knows g.K.Kit.allows c.args.self.now.kit) m s _ c.judge.result told.0 read c.judge.ensures
     ∙ ap (λ r. case_then_kit None (objected r)) c.in-NotAllowed.is
 
@@ -37,8 +37,8 @@ pub returns-in-Allowed : goal.returns-in-Allowed
 returns-in-Allowed g c =
     let m = case_model c.args.self.now in
     let s = step_call_model c.args.step in
-    let told = c.in-ok-conclusion.ensures in
-    let read = read_by_sets m s (record { rule = s.rule; principal = s.principal; conclusion = c.in-ok-conclusion.conclusion }) (take (length s.premises) c.held-premises.result) refl refl (λ i k. told.1 k i) c.held-premises.ensures in (
+    let told = c.in_ok-conclusion.ensures in
+    let read = read_by_sets m s (record { rule = s.rule; principal = s.principal; conclusion = c.in_ok-conclusion.conclusion }) (take (length s.premises) c.held-premises.result) refl refl (λ i k. told.1 k i) c.held-premises.ensures in (
       objected_by_kit (kit_model g.K.Kit.knows g.K.Kit.allows c.args.self.now.kit) m s _ c.judge.result told.0 read c.judge.ensures
           ∙ ap (λ r. case_then_kit None (objected r)) c.in-Allowed.is,
       λ i k. told.1 k i,

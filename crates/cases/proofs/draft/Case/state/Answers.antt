@@ -5,7 +5,7 @@ use Rattle.cases.specs.Views.{case_model}
 use Rattle.cases.proofs.Goods.{good_from, good_state}
 use Rattle.cases.proofs.draft.Case.state.Goals as goal
 
-pub invariant-of-self : goal.invariant-of-self
-invariant-of-self g c =
+pub invariant_of-self : goal.invariant_of-self
+invariant_of-self g c =
     let t = c.args.self.now in
-    (t.room, (t.few, (∣ subst (λ r. Good (with_run (case_model t) r)) (sym c.record.ensures.after) (good_state (case_model t) c.args.letters (good_from t.good)) ∣₁, tt)))
+    record { room = t.room; few = t.few; good = ∣ subst (λ r. Good (with_run (case_model t) r)) (sym c.record.ensures.after) (good_state (case_model t) c.args.letters (good_from t.good)) ∣₁ }

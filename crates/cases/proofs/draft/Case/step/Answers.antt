@@ -13,51 +13,42 @@ use Rattle.cases.proofs.Admitted.{step_admitted}
 use Rattle.cases.proofs.HandedSteps.{with_pushed}
 use Rattle.cases.proofs.draft.Case.step.Goals as goal
 
-pub returns-in-err-conclusion : goal.returns-in-err-conclusion
-returns-in-err-conclusion g c =
-    let p = err_from_is_err_and c.from-residual.result c.from-residual.ensures.1 in
+pub returns-in_err-conclusion : goal.returns-in_err-conclusion
+returns-in_err-conclusion g c =
+    let p = err_from_is_err_and c.from_residual.result c.from_residual.ensures.1 in
     let m = case_model c.args.self.now in
     let s = step_call_model c.args.step in
-    let e = c.in-err-conclusion.ensures in
+    let e = c.in_err-conclusion.ensures in
     record { value = p.1 ∙ ap Err p.2 ∙ sym (ap (λ o. number_unless o (length m.steps + 1)) e); after = sym (ap (λ o. changed_unless o (with_step m (contains s.conclusion)) m) e); kit = refl }
 
-pub push-reserved-requires : goal.push-reserved-requires
-push-reserved-requires g c =
+pub push_reserved-requires : goal.push_reserved-requires
+push_reserved-requires g c =
     let m = case_model c.args.self.now in
     let steps = c.args.self.now.steps in
-    let taken = step_admitted (kit_model g.K.Kit.knows g.K.Kit.allows c.args.self.now.kit) m (step_call_model c.args.step) c.in-ok-conclusion.ensures.0 in
+    let taken = step_admitted (kit_model g.K.Kit.knows g.K.Kit.allows c.args.self.now.kit) m (step_call_model c.args.step) c.in_ok-conclusion.ensures.0 in
     omega (arith, taken.room, steps.ok.0, length-map (vec_items steps) member, c.args.self.now.room)
 
-pub invariant-of-self : goal.invariant-of-self
-invariant-of-self g c =
+pub invariant_of-self : goal.invariant_of-self
+invariant_of-self g c =
     let m = case_model c.args.self.now in
     let s = step_call_model c.args.step in
     let kit = c.args.self.now.kit in
     let k = kit_model g.K.Kit.knows g.K.Kit.allows kit in
     let steps = c.args.self.now.steps in
-    let told = c.in-ok-conclusion.ensures in
+    let told = c.in_ok-conclusion.ensures in
     let taken = step_admitted k m s told.0 in
     let law : KitLaw k = record { sound = g.met.K.Kit.sound kit; known = g.met.K.Kit.allowed_known kit } in
-    let new = with_pushed m (vec_items steps) (vec_items c.push-reserved.new.self) c.in-ok-conclusion.conclusion (contains s.conclusion) refl c.push-reserved.ensures.items told.1 in (
-      omega (arith, c.push-reserved.ensures.capacity, c.args.self.now.room),
-      (
-        omega (arith, c.push-reserved.ensures.len, taken.room, steps.ok.0, length-map (vec_items steps) member),
-        (
-          ∣ subst Good (ap (λ o. changed_unless o (with_step m (contains s.conclusion)) m) told.0 ∙ sym new) (good_step k law m s (good_from c.args.self.now.good)) ∣₁,
-          tt,
-        ),
-      ),
-    )
+    let new = with_pushed m (vec_items steps) (vec_items c.push_reserved.new.self) c.in_ok-conclusion.conclusion (contains s.conclusion) refl c.push_reserved.ensures.items told.1 in record { room = omega (arith, c.push_reserved.ensures.capacity, c.args.self.now.room); few = omega (arith, c.push_reserved.ensures.len, taken.room, steps.ok.0, length-map (vec_items steps) member); good = ∣ subst Good (ap (λ o. changed_unless o (with_step m (contains s.conclusion)) m) told.0 ∙ sym new) (good_step k law m s (good_from c.args.self.now.good)) ∣₁ }
 
 pub returns : goal.returns
 returns g c =
     let m = case_model c.args.self.now in
     let s = step_call_model c.args.step in
-    let told = c.in-ok-conclusion.ensures in
+    let told = c.in_ok-conclusion.ensures in
     let steps = c.args.self.now.steps in
-    let counted : c.len.result ≡ length m.steps + 1 = omega (arith, c.len.ensures, c.push-reserved.ensures.len, steps.ok.0, length-map (vec_items steps) member) in
+    let counted : c.len.result ≡ length m.steps + 1 = omega (arith, c.len.ensures, c.push_reserved.ensures.len, steps.ok.0, length-map (vec_items steps) member) in
     record {
       value = ap Ok counted ∙ sym (ap (λ o. number_unless o (length m.steps + 1)) told.0);
-      after = with_pushed m (vec_items steps) (vec_items c.push-reserved.new.self) c.in-ok-conclusion.conclusion (contains s.conclusion) refl c.push-reserved.ensures.items told.1 ∙ sym (ap (λ o. changed_unless o (with_step m (contains s.conclusion)) m) told.0);
+      after = with_pushed m (vec_items steps) (vec_items c.push_reserved.new.self) c.in_ok-conclusion.conclusion (contains s.conclusion) refl c.push_reserved.ensures.items told.1 ∙ sym (ap (λ o. changed_unless o (with_step m (contains s.conclusion)) m) told.0);
       kit = refl;
     }

@@ -16,45 +16,45 @@ use Rattle.cases.specs.Views.{draft_model}
 use Rattle.cases.proofs.Clauses.{clause_objected, clause_admitted, root_named, length_noted, admitted_room}
 use Rattle.cases.proofs.draft.Draft.clause.Goals as goal
 
-pub returns-in-err-kind : goal.returns-in-err-kind
-returns-in-err-kind g c =
-    let p = err_from_is_err_and c.from-residual.result c.from-residual.ensures.1 in
-    let a = clause_objected (draft_model c.args.self.now) c.args.kind c.args.text.now _ c.in-err-kind.ensures in
+pub returns-in_err-kind : goal.returns-in_err-kind
+returns-in_err-kind g c =
+    let p = err_from_is_err_and c.from_residual.result c.from_residual.ensures.1 in
+    let a = clause_objected (draft_model c.args.self.now) c.args.kind c.args.text.now _ c.in_err-kind.ensures in
     record { value = ap call_number p.1 ∙ ap Err p.2 ∙ a.0; after = a.1; root = rw p.1 tt; kit = refl }
 
-pub returns-in-err-entered : goal.returns-in-err-entered
-returns-in-err-entered g c =
-    let p = err_from_is_err_and c.from-residual-in-err-entered.result c.from-residual-in-err-entered.ensures.1 in
+pub returns-in_err-entered : goal.returns-in_err-entered
+returns-in_err-entered g c =
+    let p = err_from_is_err_and c.from_residual-in_err-entered.result c.from_residual-in_err-entered.ensures.1 in
     let d = draft_model c.args.self.now in
     let w = c.args.text.now in
-    let told = c.in-ok-kind.ensures in
-    let e = c.in-err-entered.ensures in
+    let told = c.in_ok-kind.ensures in
+    let e = c.in_err-entered.ensures in
     let read = e.value ∙ ap (λ m. answer d.formulas m w) c.form.ensures in
-    let a = clause_admitted d c.args.kind w _ told.0 told.1 (by_number (Err c.in-err-entered.field-0.0)) read in
+    let a = clause_admitted d c.args.kind w _ told.0 told.1 (by_number (Err c.in_err-entered.field-0.0)) read in
     record { value = ap call_number p.1 ∙ ap Err p.2 ∙ a.0; after = (λ i. record { formulas = (e.after ∙ after_refused d.formulas c.form.result w _ e.value) i; roots = d.roots; clauses = d.clauses; property = d.property }) ∙ a.1; root = rw p.1 tt; kit = refl }
 
-pub invariant-of-self-2 : goal.invariant-of-self-2
-invariant-of-self-2 g c =
-    let told = c.in-ok-kind.ensures in
+pub invariant_of-self-2 : goal.invariant_of-self-2
+invariant_of-self-2 g c =
+    let told = c.in_ok-kind.ensures in
     let t = c.args.self.now in
     let old = t.roots.numbers in
     let new = c.note.new.self.numbers in
     let long : vec_len new ≤ vec_len old + 1 = omega (arith, new.ok.0, old.ok.0, length-map (vec_items new) (λ n. n.0), length-map (vec_items old) (λ n. n.0), ap length c.note.ensures, length_noted (plain (vec_items old)) c.root-root.result.0) in
-    let e = c.in-ok-entered.ensures in
+    let e = c.in_ok-entered.ensures in
     let ss = vec_items c.enter.new.self.shapes in
     let fs = formulas ss in
     let even : length fs % 2 ≡ 0 = subst (λ n. n % 2 ≡ 0) (c.enter.new.self.shapes.ok.0 ∙ sym (length_formulas ss)) c.enter.new.self.even in
-    let named = root_named fs c.in-ok-kind.kind e.names.0 c.in-ok-entered.entered c.root-root.result e.lawful even c.root-root.ensures (subst (λ f. Names fs c.in-ok-entered.entered (entry f e.names.0)) c.form.ensures e.names.2) in
-    (t.room, (t.none, (omega (arith, admitted_room (draft_model t) c.in-ok-kind.kind told.1), (omega (arith, t.rooted), (subst (λ l. all_below (length fs) l ≡ true) (sym c.note.ensures) (all_below_noted (plain (vec_items old)) (length fs) c.root-root.result.0 (all_below_more (plain (vec_items old)) _ (length fs) (length_grown e.grown) t.inside) named.0), tt)))))
+    let named = root_named fs c.in_ok-kind.kind e.names.0 c.in_ok-entered.entered c.root-root.result e.lawful even c.root-root.ensures (subst (λ f. Names fs c.in_ok-entered.entered (entry f e.names.0)) c.form.ensures e.names.2) in
+    record { room = t.room; none = t.none; few = omega (arith, admitted_room (draft_model t) c.in_ok-kind.kind told.1); rooted = omega (arith, t.rooted); inside = subst (λ l. all_below (length fs) l ≡ true) (sym c.note.ensures) (all_below_noted (plain (vec_items old)) (length fs) c.root-root.result.0 (all_below_more (plain (vec_items old)) _ (length fs) (length_grown e.grown) t.inside) named.0) }
 
 pub returns : goal.returns
 returns g c =
     let d = draft_model c.args.self.now in
     let w = c.args.text.now in
-    let told = c.in-ok-kind.ensures in
-    let k = c.in-ok-kind.kind in
-    let e = c.in-ok-entered.ensures in
-    let m = c.in-ok-entered.entered in
+    let told = c.in_ok-kind.ensures in
+    let k = c.in_ok-kind.kind in
+    let e = c.in_ok-entered.ensures in
+    let m = c.in_ok-entered.entered in
     let read = e.value ∙ ap (λ m. answer d.formulas m w) c.form.ensures in
     let a = clause_admitted d c.args.kind w k told.0 told.1 (Ok m.0) read in
     let fs = e.after ∙ ap (λ m. after d.formulas m w) c.form.ensures in

@@ -13,8 +13,8 @@ use Rattle.cases.proofs.Goods.{good_sealed}
 use Rattle.cases.proofs.draft.Draft.seal.Goals as goal
 use Rattle.cases.proofs.draft.Draft.seal.Goals.{then-not-property, else-not-property}
 
-pub invariant-of-result : goal.invariant-of-result
-invariant-of-result g c =
+pub invariant_of-result : goal.invariant_of-result
+invariant_of-result g c =
     let t = c.args.self in
     let ss = vec_items t.table.shapes in
     let begun : 0 < length (formulas ss) = omega (arith, length_formulas ss, t.table.shapes.ok.0, t.table.begun) in
@@ -24,4 +24,4 @@ invariant-of-result g c =
       | else-not-property w ↦ ap (λ r. plain (vec_items r.numbers)) w.roots-is ∙ sym (cond-true t.property _ _ w.if-not-property.false)
     ] in
     let same : ◌≡◌ {A = CaseModel} (record { formulas = formulas ss; roots = plain (vec_items c.if-not-property.roots.numbers); steps = map member (vec_items t.steps); run = run_model c.new.result }) (sealed (draft_model t)) = λ i. record { formulas = formulas ss; roots = roots i; steps = ap (map member) t.none i; run = c.new.ensures i } in
-    (t.room, (omega (arith, t.steps.ok.0, ap length t.none), (∣ subst Good (sym same) good ∣₁, tt)))
+    record { room = t.room; few = omega (arith, t.steps.ok.0, ap length t.none); good = ∣ subst Good (sym same) good ∣₁ }

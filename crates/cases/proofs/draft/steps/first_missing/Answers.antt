@@ -4,17 +4,17 @@ use Rattle.std.proofs.lemmas.Bool.{cond-true, cond-false}
 use Rattle.cases.specs.Steps.{first_missing}
 use Rattle.cases.proofs.draft.steps.first_missing.Goals as goal
 
-pub returns-then-not-is-counted : goal.returns-then-not-is-counted
-returns-then-not-is-counted c =
+pub returns-then-not-is_counted : goal.returns-then-not-is_counted
+returns-then-not-is_counted c =
     let i = c.loop-i.i in
     let here = at_drop_more (first_missing c.args.count i) c.args.numbers.now i 0 c.loop-i-test.true in
-    sym (sym c.loop-i.invariant ∙ here ∙ cond-false _ (first_missing c.args.count (i + 1) (drop (i + 1) c.args.numbers.now)) (Some i) (sym c.if-not-is-counted.ensures))
+    sym (sym c.loop-i.invariant ∙ here ∙ cond-false _ (first_missing c.args.count (i + 1) (drop (i + 1) c.args.numbers.now)) (Some i) (sym c.if-not-is_counted.ensures))
 
 pub loop-i-preserved : goal.loop-i-preserved
 loop-i-preserved c =
     let i = c.loop-i.i in
     let here = at_drop_more (first_missing c.args.count i) c.args.numbers.now i 0 c.loop-i-test.true in
-    sym (cond-true _ (first_missing c.args.count (i + 1) (drop (i + 1) c.args.numbers.now)) (Some i) (sym c.if-not-is-counted.ensures)) ∙ sym here ∙ c.loop-i.invariant
+    sym (cond-true _ (first_missing c.args.count (i + 1) (drop (i + 1) c.args.numbers.now)) (Some i) (sym c.if-not-is_counted.ensures)) ∙ sym here ∙ c.loop-i.invariant
 
 pub returns : goal.returns
 returns c =

@@ -8,19 +8,19 @@ use Rattle.cases.specs.Steps.{first_unfit, at_index}
 use Rattle.cases.proofs.NumberSets.{equal_below, or_grouped, or_nothing}
 use Rattle.cases.proofs.draft.steps.rising_set.Goals as goal
 
-pub returns-then-not-is-from : goal.returns-then-not-is-from
-returns-then-not-is-from c =
+pub returns-then-not-is_from : goal.returns-then-not-is_from
+returns-then-not-is_from c =
     let i = c.loop-i.i in
     let ns = c.args.numbers.now in
     let here = at_drop_more (first_unfit c.args.len c.loop-i.low i) ns i 0 c.loop-i-test.true in
-    ap (at_index NotInTable) (sym c.loop-i.invariant.0 ∙ here ∙ cond-false _ (first_unfit c.args.len (get_or ns i 0 + 1) (i + 1) (drop (i + 1) ns)) (Some i) (sym c.if-not-is-from.ensures))
+    ap (at_index NotInTable) (sym c.loop-i.invariant.0 ∙ here ∙ cond-false _ (first_unfit c.args.len (get_or ns i 0 + 1) (i + 1) (drop (i + 1) ns)) (Some i) (sym c.if-not-is_from.ensures))
 
 pub loop-i-preserved : goal.loop-i-preserved
 loop-i-preserved c =
     let i = c.loop-i.i in
     let ns = c.args.numbers.now in
     let n = get_or ns i 0 in
-    let fits = sym c.if-not-is-from.ensures in
+    let fits = sym c.if-not-is_from.ensures in
     let here = at_drop_more (first_unfit c.args.len c.loop-i.low i) ns i 0 c.loop-i-test.true in
     let few : n < 512 = omega (arith, ltb-true n c.args.len (and_parts _ _ fits).1, c.requires) in (
       sym (cond-true _ (first_unfit c.args.len (n + 1) (i + 1) (drop (i + 1) ns)) (Some i) fits) ∙ sym here ∙ c.loop-i.invariant.0,

@@ -18,7 +18,7 @@ loop-number-preserved c =
     let is = c.deref-number-items.ensures.value in
     let inside : i < length ns = omega (arith, ap length is) in
     let same : get_or c.deref-number-items.result.now i nil ≡ get_or ns i nil = ap (λ l. get_or l i nil) is in
-    ap (λ x. least_failing p x (plain (drop (i + 1) ns))) (c.smallest-least.ensures ∙ ap (λ t. cond t o (smaller o (get_or c.deref-number-items.result.now i nil).0)) c.holds-first.ensures ∙ ap (λ m. cond (p m.0) o (smaller o m.0)) same)
+    ap (λ x. least_failing p x (plain (drop (i + 1) ns))) (c.smallest-least.ensures ∙ ap (λ t. cond t o (smaller o (get_or c.deref-number-items.result.now i nil).0)) c.holds_first.ensures ∙ ap (λ m. cond (p m.0) o (smaller o m.0)) same)
     ∙ sym (at_drop_more (λ l. least_failing p o (plain l)) ns i nil inside) ∙ c.loop-number.invariant
 
 pub returns : goal.returns

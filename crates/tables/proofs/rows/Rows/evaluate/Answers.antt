@@ -71,7 +71,7 @@ returns-in-Release c r is turn f =
     (λ h. row_release r c.len-len.result c.args.back (ap length is ∙ sym c.len-len.ensures.value) turn (f c.in-Release.a) (f c.in-Release.b) _ _ _ _ _ _
     (read r (f c.in-Release.a) _ _ c.row-in-Release.ensures h.0)
     (read r (f c.in-Release.b) _ _ c.row-in-Release-2.ensures h.1)
-    c.complement-not-a.ensures
-    c.complement-not-b.ensures
+    c.complement-not_a.ensures
+    c.complement-not_b.ensures
     c.until-in-Release.ensures
     c.complement-in-Release.ensures)

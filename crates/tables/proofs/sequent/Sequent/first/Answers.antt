@@ -9,7 +9,7 @@ returns-in-Some c =
     smallest_found c.args.self.now c.loop-i.i c.loop-i-test.true c.loop-i.invariant c.in-Some.at found.0 found.1 found.2
 
 pub loop-i-preserved : goal.loop-i-preserved
-loop-i-preserved c = none_before_more c.args.self.now c.loop-i.i c.loop-i-test.true c.loop-i.invariant c.in-default.ensures
+loop-i-preserved c = none_before_more c.args.self.now c.loop-i.i c.loop-i-test.true c.loop-i.invariant c.in_default.ensures
 
 pub returns : goal.returns
 returns c k = ⊎_elim (λ l. c.loop-i.invariant k (omega arith)) (member_past c.args.self.now k) (cases_lt k 512)

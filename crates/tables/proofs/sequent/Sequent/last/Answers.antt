@@ -16,4 +16,4 @@ pub loop-i-preserved : goal.loop-i-preserved
 loop-i-preserved c =
     let i = c.loop-i.i - 1 in
     let inside : i < 8 = omega arith in
-    none_after_more c.args.self.now i inside (λ k le. c.loop-i.invariant k (omega arith)) c.in-default.ensures
+    none_after_more c.args.self.now i inside (λ k le. c.loop-i.invariant k (omega arith)) c.in_default.ensures

@@ -7,35 +7,35 @@ use Rattle.tables.proofs.Growth.{grown_on, length_grown, names_grown, enter_more
 use Rattle.tables.proofs.Listed.{formulas_grown}
 use Rattle.tables.proofs.table.Table.+number_number_both_number_parts.Goals as goal
 
-pub number-returns-in-err-shape : goal.number-returns-in-err-shape
-number-returns-in-err-shape t c =
-    let h = c.in-err-shape.ensures in
+pub number-returns-in_err-shape : goal.number-returns-in_err-shape
+number-returns-in_err-shape t c =
+    let h = c.in_err-shape.ensures in
     let fs = formulas (vec_items c.args.self.now.shapes) in
     let f = formula_at (vec_items c.args.syntax.now.nodes) c.args.part in
-    record { value = rw c.from-residual.ensures (omega (arith, h.value, enter_more fs f)); grown = h.grown }
+    record { value = rw c.from_residual.ensures (omega (arith, h.value, enter_more fs f)); grown = h.grown }
 
 pub number-returns : goal.number-returns
 number-returns t c =
-    let h = c.in-ok-shape.ensures in
+    let h = c.in_ok-shape.ensures in
     record { value = reaches_entered _ _ _ _ _ _ h.value.0 h.value.1.0 c.add.ensures.value; grown = grown_on h.grown c.add.ensures.grown }
 
-pub number-both-returns-in-err-left : goal.number-both-returns-in-err-left
-number-both-returns-in-err-left t c =
-    let h = c.in-err-left.ensures in
+pub number_both-returns-in_err-left : goal.number_both-returns-in_err-left
+number_both-returns-in_err-left t c =
+    let h = c.in_err-left.ensures in
     let ns = vec_items c.args.syntax.now.nodes in
     let gs = enter (formulas (vec_items c.args.self.now.shapes)) (formula_at ns c.args.left) in
-    record { value = rw c.from-residual.ensures (omega (arith, h.value, length_grown (enter_grown gs (formula_at ns c.args.right)))); grown = h.grown }
+    record { value = rw c.from_residual.ensures (omega (arith, h.value, length_grown (enter_grown gs (formula_at ns c.args.right)))); grown = h.grown }
 
-pub number-both-returns-in-err-right : goal.number-both-returns-in-err-right
-number-both-returns-in-err-right t c =
-    let l = c.in-ok-left.ensures in
-    let h = c.in-err-right.ensures in
-    record { value = rw c.from-residual-in-err-right.ensures (rw l.value.0 at h.value); grown = grown_on l.grown h.grown }
+pub number_both-returns-in_err-right : goal.number_both-returns-in_err-right
+number_both-returns-in_err-right t c =
+    let l = c.in_ok-left.ensures in
+    let h = c.in_err-right.ensures in
+    record { value = rw c.from_residual-in_err-right.ensures (rw l.value.0 at h.value); grown = grown_on l.grown h.grown }
 
-pub number-both-returns : goal.number-both-returns
-number-both-returns t c =
-    let l = c.in-ok-left.ensures in
-    let r = c.in-ok-right.ensures in
+pub number_both-returns : goal.number_both-returns
+number_both-returns t c =
+    let l = c.in_ok-left.ensures in
+    let r = c.in_ok-right.ensures in
     record {
       value = (r.value.0 ∙ ap (λ gs. enter gs (formula_at (vec_items c.args.syntax.now.nodes) c.args.right)) l.value.0, (names_grown _ _ (formulas_grown r.grown) l.value.1, r.value.1));
       grown = grown_on l.grown r.grown;

@@ -15,38 +15,38 @@ use Rattle.tables.proofs.table.Table.enter.Goals.{After-truncate}
 restored : (c : After-truncate) → vec_items c.truncate.new.self ≡ vec_items c.args.self.now.shapes
 restored c =
     let v = c.args.self.now.shapes in
-    let g = c.in-default.ensures.grown in
+    let g = c.in_default.ensures.grown in
     c.truncate.ensures.items ∙ ap (take c.len-before.result) g.is ∙ take_at (vec_items v) g.more c.len-before.result (sym (c.len-before.ensures ∙ v.ok.0))
 
-pub invariant-of-self : goal.invariant-of-self
-invariant-of-self c =
+pub invariant_of-self : goal.invariant_of-self
+invariant_of-self c =
     let t = c.args.self.now in
     let items = restored c in
     let long : vec_len c.truncate.new.self ≡ vec_len t.shapes = c.truncate.new.self.ok.0 ∙ ap length items ∙ sym t.shapes.ok.0 in
-    (search rules, (omega (arith, t.few), (subst PartsFirst (sym items) t.order, (omega (arith, t.begun), (subst (λ n. n % 2 ≡ 0) (sym long) t.even, (subst (λ l. ∥ Lawful (formulas l) ∥₁) (sym items) t.lawful, tt))))))
+    record { room = search rules; few = omega (arith, t.few); order = subst PartsFirst (sym items) t.order; begun = omega (arith, t.begun); even = subst (λ n. n % 2 ≡ 0) (sym long) t.even; lawful = subst (λ l. ∥ Lawful (formulas l) ∥₁) (sym items) t.lawful }
 
-pub returns-in-default : goal.returns-in-default
-returns-in-default c =
-    let c' = (goal.at.returns-in-default c).After-truncate in
+pub returns-in_default : goal.returns-in_default
+returns-in_default c =
+    let c' = (goal.at.returns-in_default c).After-truncate in
     let fs = formulas (vec_items c.args.self.now.shapes) in
-    let a = full_answer fs c.args.form c.args.text.now _ c.in-ok-root.ensures.value c.in-default.ensures.value in
+    let a = full_answer fs c.args.form c.args.text.now _ c.in_ok-root.ensures.value c.in_default.ensures.value in
     let same = ap formulas (restored c') in
     record { value = a.0; after = same ∙ a.1; names = tt; grown = subst (Grown fs) (sym same) (grown_none fs); lawful = subst Lawful (sym same) (lawful_from c.args.self.now.lawful); parts = subst PartsSmaller (sym same) (parts_smaller _ c.args.self.now.order) }
 
 pub returns : goal.returns
 returns c =
     let h = c.in-Some.ensures in
-    let t = c.number-form.new.self in
+    let t = c.number_form.new.self in
     let ss = vec_items t.shapes in
     let even : length (formulas ss) % 2 ≡ 0 = subst (λ n. n % 2 ≡ 0) (t.shapes.ok.0 ∙ sym (length_formulas ss)) t.even in
     let few : length (formulas ss) ≤ 512 = omega (arith, t.few, t.shapes.ok.0, length_formulas ss) in
-    let a = taken_answer (formulas (vec_items c.args.self.now.shapes)) c.args.form c.args.text.now _ c.in-ok-root.ensures.value (formulas ss) c.in-Some.number h.value.0 few (lawful_from t.lawful) even h.value.1 in
-    record { value = a.0; after = a.1; names = (_, c.in-ok-root.ensures.reads.1, h.value.1); grown = formulas_grown h.grown; lawful = lawful_from t.lawful; parts = parts_smaller ss t.order }
+    let a = taken_answer (formulas (vec_items c.args.self.now.shapes)) c.args.form c.args.text.now _ c.in_ok-root.ensures.value (formulas ss) c.in-Some.number h.value.0 few (lawful_from t.lawful) even h.value.1 in
+    record { value = a.0; after = a.1; names = (_, c.in_ok-root.ensures.reads.1, h.value.1); grown = formulas_grown h.grown; lawful = lawful_from t.lawful; parts = parts_smaller ss t.order }
 
-pub returns-in-err-root : goal.returns-in-err-root
-returns-in-err-root c =
-    let p = err_from_is_err_and c.from-residual.result c.from-residual.ensures.1 in
-    let read = c.in-err-root.ensures.value in
+pub returns-in_err-root : goal.returns-in_err-root
+returns-in_err-root c =
+    let p = err_from_is_err_and c.from_residual.result c.from_residual.ensures.1 in
+    let read = c.in_err-root.ensures.value in
     let fs = formulas (vec_items c.args.self.now.shapes) in
     record {
       value = ap by_number p.1 ∙ ap Err p.2 ∙ ap (answer_read fs c.args.form) read;

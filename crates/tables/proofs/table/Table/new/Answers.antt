@@ -6,7 +6,7 @@ use Rattle.tables.specs.declared.number.Number.{Number}
 use Rattle.tables.specs.Listing.{formulas, PartsFirst, Lawful}
 use Rattle.tables.proofs.Laws.{lawful_start}
 use Rattle.tables.proofs.table.Table.new.Goals as goal
-use Rattle.tables.proofs.table.Table.new.Goals.{After-push-reserved-2}
+use Rattle.tables.proofs.table.Table.new.Goals.{After-push_reserved-2}
 
 start : List (Shape Number)
 start = True ∷ False ∷ []
@@ -21,14 +21,14 @@ start_order zero h = refl
 start_order (suc zero) h = refl
 start_order (suc (suc i)) h = absurd (omega arith)
 
-holds : (c : After-push-reserved-2) → vec_items c.push-reserved-2.new.self ≡ start
+holds : (c : After-push_reserved-2) → vec_items c.push_reserved-2.new.self ≡ start
 unfolding start
 holds c =
-    c.push-reserved-2.ensures.items
-    ∙ ap (λ l. l ++ False ∷ []) (c.push-reserved.ensures.items ∙ ap (λ l. l ++ True ∷ []) c.in-ok-shapes.ensures.items)
+    c.push_reserved-2.ensures.items
+    ∙ ap (λ l. l ++ False ∷ []) (c.push_reserved.ensures.items ∙ ap (λ l. l ++ True ∷ []) c.in_ok-shapes.ensures.items)
 
-pub invariant-of-result : goal.invariant-of-result
-invariant-of-result c = (search rules, (search rules, (subst PartsFirst (sym (holds c)) start_order, (search rules, (search rules, (∣ subst (λ l. Lawful (formulas l)) (sym (holds c)) (subst Lawful (sym start_formulas) lawful_start) ∣₁, tt))))))
+pub invariant_of-result : goal.invariant_of-result
+invariant_of-result c = record { room = search rules; few = search rules; order = subst PartsFirst (sym (holds c)) start_order; begun = search rules; even = search rules; lawful = ∣ subst (λ l. Lawful (formulas l)) (sym (holds c)) (subst Lawful (sym start_formulas) lawful_start) ∣₁ }
 
 pub returns : goal.returns
-returns c = ap formulas (holds (goal.at.returns c).After-push-reserved-2) ∙ start_formulas
+returns c = ap formulas (holds (goal.at.returns c).After-push_reserved-2) ∙ start_formulas

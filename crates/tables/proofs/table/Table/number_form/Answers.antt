@@ -10,18 +10,18 @@ use Rattle.tables.specs.Listing.{formulas}
 use Rattle.tables.proofs.Growth.{grown_on, entry_more, reaches_entered}
 use Rattle.tables.proofs.table.Table.number_form.Goals as goal
 
-pub returns-in-err-number : goal.returns-in-err-number
-returns-in-err-number c =
-    let h = c.in-err-number.ensures in
+pub returns-in_err-number : goal.returns-in_err-number
+returns-in_err-number c =
+    let h = c.in_err-number.ensures in
     let ns = vec_items c.args.syntax.now.nodes in
     let fs = formulas (vec_items c.args.self.now.shapes) in
     let t = tree_at ns c.args.root in
     let full : 512 < length (enter fs (normal t)) = subst (λ p. 512 < length (enter fs (formula_at ns p))) c.plain.ensures h.value in
-    record { value = rw c.from-residual.ensures (omega (arith, full, entry_more fs c.args.form t)); grown = h.grown }
+    record { value = rw c.from_residual.ensures (omega (arith, full, entry_more fs c.args.form t)); grown = h.grown }
 
 pub returns-in-Always : goal.returns-in-Always
 returns-in-Always c =
-    let h = c.in-ok-number.ensures in
+    let h = c.in_ok-number.ensures in
     let ns = vec_items c.args.syntax.now.nodes in
     let fs = formulas (vec_items c.args.self.now.shapes) in
     let gs = formulas (vec_items c.add.new.self.shapes) in

@@ -1,9 +1,8 @@
-use Rattle.std.proofs.Common.{◌≡◌, ◌<◌, true, ltb, vec_items, sym, ap, ◌∙◌, subst, arith}
+use Rattle.std.proofs.Common.{◌≡◌, true, ltb, vec_items, sym, ap, ◌∙◌, subst, arith}
 use Rattle.std.proofs.lemmas.Bool.{ltb-true, lt-ltb}
 use Rattle.pltl.specs.Formulas.{opposite, normal, not}
 use Rattle.pltl.proofs.Tests.{all_parts_weaker, each_from_all}
-use Rattle.texts.specs.declared.normal.Part.{Part}
-use Rattle.texts.specs.Normals.{formula_at, normal_at}
+use Rattle.texts.specs.Normals.{formula_at}
 use Rattle.texts.specs.Syntax.{tree_at, tree_over, trees, below}
 use Rattle.texts.proofs.Parts.{formula_at_dual}
 use Rattle.texts.proofs.nodes.Syntax.+shape_of.Goals as goal

@@ -19,9 +19,9 @@ sized w e h = (omega (arith, eqb-false (length w) 0 e), h)
 read_by : (w : List ℕ) (r : Result Tree TextFault) → r ≡ reading w → Reads w r
 read_by w r e = subst (Reads w) (sym e) (reads_reading w)
 
-pub returns-then-is-empty : goal.returns-then-is-empty
-returns-then-is-empty c =
-    let h = eqb-true _ 0 (sym c.if-is-empty.ensures) in
+pub returns-then-is_empty : goal.returns-then-is_empty
+returns-then-is_empty c =
+    let h = eqb-true _ 0 (sym c.if-is_empty.ensures) in
     record { value = sym (reads_as_reading c.args.text.now (Err Empty) h); reads = h }
 
 pub returns-then-text-gt-LONGEST : goal.returns-then-text-gt-LONGEST
@@ -29,22 +29,22 @@ returns-then-text-gt-LONGEST c =
     let h = c.if-text-gt-LONGEST.true in
     record { value = sym (reads_as_reading c.args.text.now (Err TooLong) h); reads = h }
 
-pub returns-in-err-whole : goal.returns-in-err-whole
-returns-in-err-whole c =
-    let z = sized c.args.text.now (sym c.if-is-empty.ensures) c.if-text-gt-LONGEST.false in
-    let p = err_from_is_err_and c.from-residual.result c.from-residual.ensures.1 in
+pub returns-in_err-whole : goal.returns-in_err-whole
+returns-in_err-whole c =
+    let z = sized c.args.text.now (sym c.if-is_empty.ensures) c.if-text-gt-LONGEST.false in
+    let p = err_from_is_err_and c.from_residual.result c.from_residual.ensures.1 in
     let e = ap (answered (vec_items c.imp.new.out.nodes)) p.1 ∙ ap Err p.2
-    ∙ sym (sized_reading c.args.text.now z ∙ c.in-err-whole.ensures nothing []) in
+    ∙ sym (sized_reading c.args.text.now z ∙ c.in_err-whole.ensures nothing []) in
     record { value = e; reads = read_by c.args.text.now _ e }
 
 pub returns-then-whole-text : goal.returns-then-whole-text
 returns-then-whole-text c =
-    let z = sized c.args.text.now (sym c.if-is-empty.ensures) c.if-text-gt-LONGEST.false in
-    let e = sym (sized_reading c.args.text.now z ∙ more_follows c.in-ok-whole.ensures c.if-whole-text.true) in
+    let z = sized c.args.text.now (sym c.if-is_empty.ensures) c.if-text-gt-LONGEST.false in
+    let e = sym (sized_reading c.args.text.now z ∙ more_follows c.in_ok-whole.ensures c.if-whole-text.true) in
     record { value = e; reads = read_by c.args.text.now _ e }
 
 pub returns : goal.returns
 returns c =
-    let z = sized c.args.text.now (sym c.if-is-empty.ensures) c.if-text-gt-LONGEST.false in
-    let s = whole_text c.in-ok-whole.ensures c.if-whole-text.false in
+    let z = sized c.args.text.now (sym c.if-is_empty.ensures) c.if-text-gt-LONGEST.false in
+    let s = whole_text c.in_ok-whole.ensures c.if-whole-text.false in
     record { value = sym (sized_reading c.args.text.now z ∙ scan_spelled s); reads = (z, s) }

@@ -1,8 +1,8 @@
-use Rattle.std.proofs.Common.{◌≡◌, ltb, vec_items, sym, ap, ◌∙◌}
+use Rattle.std.proofs.Common.{ltb, vec_items, sym, ap, ◌∙◌}
 use Rattle.std.proofs.lemmas.Bool.{cond-true}
 use Rattle.pltl.specs.Formulas.{opposite}
 use Rattle.pltl.proofs.Tests.{each_from_all}
-use Rattle.texts.specs.Normals.{formula_at, normal_at}
+use Rattle.texts.specs.Normals.{formula_at}
 use Rattle.texts.proofs.Parts.{formula_at_dual}
 use Rattle.texts.proofs.nodes.Syntax.shape.Goals as goal
 
@@ -10,6 +10,6 @@ pub returns-then-part : goal.returns-then-part
 returns-then-part c =
     let ns = vec_items c.args.self.now.nodes in
     record {
-      value = c.opposite.ensures.value (formula_at ns) (each_from_all _ (formula_at_dual ns) _) ∙ ap opposite c.shape-of-plain.ensures.value ∙ sym (cond-true _ _ _ c.if-part.true);
-      parts = c.opposite.ensures.parts (λ p. ltb p.node c.args.part.node) ∙ c.shape-of-plain.ensures.parts;
+      value = c.opposite.ensures.value (formula_at ns) (each_from_all _ (formula_at_dual ns) _) ∙ ap opposite c.shape_of-plain.ensures.value ∙ sym (cond-true _ _ _ c.if-part.true);
+      parts = c.opposite.ensures.parts (λ p. ltb p.node c.args.part.node) ∙ c.shape_of-plain.ensures.parts;
     }
