@@ -23,8 +23,8 @@ returns-then-premises-eq1 c =
     let ps = c.args.premises.now in
     let r = c.in-One.room in
     let one = c.if-premises-eq1.true in
-    let h = c.fits-then-premises-eq1.ensures in
-    subst (λ p. Decides c.fits-then-premises-eq1.result (FitsPlan fs d p (map (formulas_in fs) ps))) (sym c.in-One.is)
+    let h = c.fits.ensures in
+    subst (λ p. Decides c.fits.result (FitsPlan fs d p (map (formulas_in fs) ps))) (sym c.in-One.is)
     (λ e. one_from fs d r ps none one (h.0 e), λ f. h.1 (one_to fs d r ps none one f))
 
 pub returns-else-premises-eq1 : goal.returns-else-premises-eq1

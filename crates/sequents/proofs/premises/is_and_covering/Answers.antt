@@ -1,5 +1,5 @@
 use Rattle.std.proofs.Common.{◌≡◌, ◌<◌, true, ltb, length, sym, ap, ◌∙◌, subst, arith}
-use Rattle.std.proofs.lemmas.Bool.{both_ways, ltb-true, and_parts}
+use Rattle.std.proofs.lemmas.Bool.{both_ways, ltb-true, and_parts, eq-eqb}
 use Rattle.pltl.specs.Formulas.{And}
 use Rattle.calculus.proofs.Decided.{parts}
 use Rattle.tables.specs.Listing.{numbered, formula_over, parts_below}
@@ -20,5 +20,5 @@ returns-else-eq c =
     let low_one : x.0 < k = ltb-true x.0 k low.0 in
     let inside : x.0 < length fs = omega (arith, h.0) in (
       λ e. absurd (both_ways _ c.if-eq.false e),
-      λ s. c.eq.ensures.1 ((table_lawful t).once x.0 c.args.a.0 inside c.requires.1 (ap (λ g. (parts g).0) (is ∙ s.1))),
+      λ s. c.eq.ensures ∙ eq-eqb _ _ ((table_lawful t).once x.0 c.args.a.0 inside c.requires.1 (ap (λ g. (parts g).0) (is ∙ s.1))),
     )
