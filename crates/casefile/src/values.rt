@@ -2,7 +2,9 @@
 ghost use Rattle.std.specs.Prelude.{◌≡◌, ◌<◌, ◌≤◌, true, length, IfOk};
 
 use super::faults::LineFault;
-use kits::Kit;
+use kits::{Kit, Pair};
+use sequents::Sequents;
+use units::Units;
 
 // The kits that a file can choose.
 #[derive(Clone, Copy)]
@@ -17,11 +19,11 @@ pub(crate) fn kit_choice(value: &[u8]) -> Result<Choice, LineFault> {
     let Some(letter) = value.first().copied() else {
         return Err(LineFault::Value(0));
     };
-    let choice = if letter == <sequents::Sequents as Kit>::LETTER {
+    let choice = if letter == <Sequents as Kit>::LETTER {
         Choice::Sequents
-    } else if letter == <units::Units as Kit>::LETTER {
+    } else if letter == <Units as Kit>::LETTER {
         Choice::Units
-    } else if letter == PairKit::<sequents::Sequents, units::Units>::LETTER {
+    } else if letter == <Pair<Sequents, Units> as Kit>::LETTER {
         Choice::Both
     } else {
         return Err(LineFault::Value(0));

@@ -8,22 +8,20 @@ pub read_lines-requires : goal.read_lines-requires
 read_lines-requires g c =
     let d = c.draft_lines-at.ensures in
     let same = ap (λ (f : List ℕ). newlines (drop c.draft_lines-at.new.lines.at f)) d.file in
-    let made = c.in_ok-read.ensures.made in
-    record { ended = subst LinesEnd (sym d.file) c.requires.ended; room = omega (arith, d.room, c.put_letter-at.ensures.room, same, c.requires.few, made) }
+    record { ended = subst LinesEnd (sym d.file) c.requires.ended; room = omega (arith, d.room, c.put_letter-at.ensures.room, same, c.requires.few, c.in_ok-read.ensures.len, c.in_ok-read.ensures.capacity) }
 
 pub enter_calls-requires : goal.enter_calls-requires
 enter_calls-requires g c =
     let d = c.draft_lines-at.ensures in
     let same = ap (λ (f : List ℕ). newlines (drop c.draft_lines-at.new.lines.at f)) d.file in
-    let made = c.in_ok-entries.ensures.made in
-    omega (arith, d.room, c.put_letter-at.ensures.room, same, c.requires.few, c.read_lines.ensures.few, c.as_slice.ensures.len, c.in_ok-read.ensures.made, made)
+    omega (arith, d.room, c.put_letter-at.ensures.room, same, c.requires.few, c.read_lines.ensures.few, c.as_slice.ensures.len, c.in_ok-read.ensures.len, c.in_ok-entries.ensures.len, c.in_ok-entries.ensures.capacity)
 
 pub put_evidence-requires : goal.put_evidence-requires
 put_evidence-requires g c =
     let d = c.draft_lines-at.ensures in
     let same = ap (λ (f : List ℕ). newlines (drop c.draft_lines-at.new.lines.at f)) d.file in
     let l = c.draft_lines-at.new.lines in
-    let read : length c.as_slice-3.result.now ≤ newlines (drop l.at l.file.now) = omega (arith, c.read_lines.ensures.few, c.as_slice-3.ensures.len, c.in_ok-read.ensures.made) in
+    let read : length c.as_slice-3.result.now ≤ newlines (drop l.at l.file.now) = omega (arith, c.read_lines.ensures.few, c.as_slice-3.ensures.len, c.in_ok-read.ensures.len) in
     record {
       room = omega (arith, d.room, c.put_letter-at.ensures.room, ap sealing c.if-not-sealing.false, c.put_answer-at.ensures.room, c.put_answer-at.ensures.kept.long, d.kept.long, c.put_letter-at.ensures.kept.long, c.requires.room, same, read);
       line = omega (arith, d.room, c.put_letter-at.ensures.room, same, read, c.requires.few, c.line-passed.ensures, l.counted, l.inside, ap length d.file, c.requires.ended.short);
@@ -39,7 +37,7 @@ returns g c =
     let d = c.draft_lines-at.ensures in
     let same = ap (λ (f : List ℕ). newlines (drop c.draft_lines-at.new.lines.at f)) d.file in
     let l = c.draft_lines-at.new.lines in
-    let read : length c.as_slice-3.result.now ≤ newlines (drop l.at l.file.now) = omega (arith, c.read_lines.ensures.few, c.as_slice-3.ensures.len, c.in_ok-read.ensures.made) in
+    let read : length c.as_slice-3.result.now ≤ newlines (drop l.at l.file.now) = omega (arith, c.read_lines.ensures.few, c.as_slice-3.ensures.len, c.in_ok-read.ensures.len) in
     let a = c.put_answer-at.ensures in
     let e = c.put_evidence.ensures in (
       omega (arith, d.room, c.put_letter-at.ensures.room, ap sealing c.if-not-sealing.false, a.room, e.room, same, read),
