@@ -1,8 +1,13 @@
 -- Passing the lines of a file. Assumes nothing.
-use Rattle.std.proofs.Common.{◌≡◌, ℕ, zero, suc, ◌+◌, ◌-◌, ◌<◌, ◌≤◌, cond, eqb, List, length, get_or, drop, sym, ap, ◌∙◌, subst, inl, inr, arith}
+use Rattle.std.proofs.Common.{◌≡◌, ℕ, zero, suc, ◌+◌, ◌-◌, ◌<◌, ◌≤◌, cond, eqb, List, [], ◌∷◌, length, get_or, drop, sym, ap, ◌∙◌, subst, inl, inr, arith}
 use Rattle.std.proofs.lemmas.List.{at_drop_more, at_drop_all}
-use Rattle.std.proofs.lemmas.Bool.{cases_lt, cond-true, cond-false, eq-eqb, ne_eqb}
+use Rattle.std.proofs.lemmas.Bool.{cases_lt, cond_both, cond-true, cond-false, eq-eqb, ne_eqb}
 use Rattle.casefile.specs.Newlines.{newlines}
+
+-- as many lines end as there are bytes, at most
+pub newlines_few : (bs : List ℕ) → newlines bs ≤ length bs
+newlines_few [] = omega arith
+newlines_few (b ∷ bs) = omega (arith, newlines_few bs, cond_both (eqb b 10) 1 0 (λ n. n ≤ 1) (λ _. omega arith) (λ _. omega arith))
 
 -- past one byte
 pub step : (file : List ℕ) (i : ℕ) → i < length file → newlines (drop i file) ≡ cond (eqb (get_or file i 0) 10) 1 0 + newlines (drop (i + 1) file)

@@ -94,6 +94,13 @@ impl<'a> Lines<'a> {
         self.line
     }
 
+    // The bytes of the lines that are left.
+    pub(crate) fn rest(&self) -> &'a [u8]
+        ensures { result.now ≡ drop self.now.at self.now.file.now }
+    {
+        &self.file[self.at..]
+    }
+
     // Passes the next line, and answers it; nothing at the end of the file.
     pub fn next_line(&mut self) -> Option<Line<'a>>
         ensures file { self.new.file.now ≡ self.old.file.now }

@@ -244,13 +244,13 @@ fn kit_sheet<K: Kit + Drop>(
 ) -> Result<usize, AllocError>
     requires ended { LinesEnd lines.old.file.now }
     requires room { 64 + 64 * newlines (drop lines.old.at lines.old.file.now) ≤ length out.old }
-    requires few { newlines (drop lines.old.at lines.old.file.now) ≤ 500 }
     ensures { MatchResult result (λ n. (n ≤ 64 + 64 * newlines (drop lines.old.at lines.old.file.now)) × Kept out.old out.new n) (λ _. out.new ≡ out.old) }
 {
     let mut draft = Draft::new(kit, heap)?;
     let mut numbers = Numbers::new(heap)?;
-    let mut read = Vec::with_capacity(heap, MOST_LINES)?;
-    let mut entries = Vec::with_capacity(heap, MOST_LINES)?;
+    let most = count_lines(lines.rest());
+    let mut read = Vec::with_capacity(heap, most)?;
+    let mut entries = Vec::with_capacity(heap, most)?;
     let at = put_letter(out, K::LETTER);
     let (at, sealing) = draft_lines(&mut draft, lines, out, at);
     if !sealing {
@@ -276,7 +276,6 @@ fn first_line(line: Line) -> Result<Choice, LineFault> {
 fn file_sheet(file: &[u8], out: &mut [u8], heap: Global) -> Result<usize, AllocError>
     requires ended { LinesEnd file.now }
     requires room { 64 * newlines file.now ≤ length out.old }
-    requires few { newlines file.now ≤ 500 }
     ensures { MatchResult result (λ n. (n ≤ 64 * newlines file.now) × Kept out.old out.new n) (λ _. out.new ≡ out.old) }
 {
     let mut lines = Lines::new(file);

@@ -5,7 +5,7 @@ use Rattle.std.proofs.lemmas.Bool.{and_parts, or_cases, ltb-true, ltb-false, leb
 use Rattle.tables.specs.Listing.{numbered}
 use Rattle.kits.specs.declared.faults.KitFault.{KitFault}
 use Rattle.cases.specs.Loops.{looped, false_root, root_objection, loop_objection}
-use Rattle.cases.specs.Models.{RunModel, CaseModel, KitModel}
+use Rattle.cases.specs.Models.{RunModel, CaseModel, SteppedModel, KitModel}
 use Rattle.cases.specs.Recordings.{is_closed, event_objection, stray, letters_objection}
 use Rattle.cases.specs.Roots.{contains, least_failing}
 use Rattle.cases.specs.Steps.{StepCallModel, first_unfit, first_missing, at_index, or_else, premises_objection, numbers_objection, step_read, kit_objection, case_then_kit, step_objection}
@@ -50,29 +50,29 @@ none_of_roots None (Some n) e = none_some (sym e)
 none_of_roots (Some f) o e = none_some (sym e)
 
 -- nothing is objected to a step
-pub record StepAdmitted (k : KitModel) (c : CaseModel) (s : StepCallModel) : Type 0 where
+pub record StepAdmitted (k : KitModel) (c : SteppedModel) (s : StepCallModel) : Type 0 where
   pub room : length c.steps < 400
-  pub fits : first_unfit (length c.formulas) 0 0 s.conclusion ≡ None
+  pub fits : first_unfit (length c.case.formulas) 0 0 s.conclusion ≡ None
   pub few : length s.premises ≤ 2
   pub earlier : first_missing (length c.steps) 0 s.premises ≡ None
   pub known : k.knows s.rule ≡ true
-  pub allowed : k.allows c.formulas (step_read c s) ≡ true
+  pub allowed : k.allows c.case.formulas (step_read c s) ≡ true
 
-module _ (k : KitModel) (c : CaseModel) (s : StepCallModel) where
+module _ (k : KitModel) (c : SteppedModel) (s : StepCallModel) where
   -- the tests and what they object
   abbrev unfit : Option CaseFault
-  unfit = at_index NotInTable (first_unfit (length c.formulas) 0 0 s.conclusion)
+  unfit = at_index NotInTable (first_unfit (length c.case.formulas) 0 0 s.conclusion)
 
   abbrev missing : Option CaseFault
   missing = at_index NoSuchStep (first_missing (length c.steps) 0 s.premises)
 
   abbrev by_kit : Option KitFault
-  by_kit = kit_objection (k.knows s.rule) (k.allows c.formulas (step_read c s))
+  by_kit = kit_objection (k.knows s.rule) (k.allows c.case.formulas (step_read c s))
 
   pub step_admitted : step_objection k c s ≡ None → StepAdmitted k c s
   step_admitted e =
       let both = none_then_kit (numbers_objection c s) by_kit e in
-      let kit = none_of_kit (k.knows s.rule) (k.allows c.formulas (step_read c s)) both.1 in
+      let kit = none_of_kit (k.knows s.rule) (k.allows c.case.formulas (step_read c s)) both.1 in
       let room = none_unless (leb 400 (length c.steps)) TooManySteps (or_else unfit (premises_objection (length c.steps) s.premises)) both.0 in
       let parts = none_or_else unfit (premises_objection (length c.steps) s.premises) room.1 in
       let few = none_unless (ltb 2 (length s.premises)) (NoSuchStep 2) missing parts.1 in
@@ -93,7 +93,7 @@ module _ (k : KitModel) (c : CaseModel) (s : StepCallModel) where
       cond-false (leb 400 (length c.steps)) (Some TooManySteps) (or_else unfit (premises_objection (length c.steps) s.premises)) (lt-leb 400 (length c.steps) a.room)
       ∙ ap (λ o. or_else (at_index NotInTable o) (premises_objection (length c.steps) s.premises)) a.fits
       ∙ premises in
-      let kit : by_kit ≡ None = ap (λ b. kit_objection b (k.allows c.formulas (step_read c s))) a.known ∙ ap (kit_objection true) a.allowed in
+      let kit : by_kit ≡ None = ap (λ b. kit_objection b (k.allows c.case.formulas (step_read c s))) a.known ∙ ap (kit_objection true) a.allowed in
       ap (λ o. case_then_kit o by_kit) numbers ∙ ap (case_then_kit None) kit
 
 -- numbers that fit are below n

@@ -13,7 +13,7 @@ use Rattle.kits.specs.declared.steps.Step.{Step}
 use Rattle.kits.specs.Steps.{StepModel, step_model, judgement}
 use Rattle.cases.specs.declared.faults.CaseFault.{CaseFault}
 use Rattle.cases.specs.declared.faults.CaseFault.TheVariants.{NotInTable, NoSuchStep, TooManySteps}
-use Rattle.cases.specs.Models.{CaseModel, KitModel}
+use Rattle.cases.specs.Models.{SteppedModel, KitModel}
 use Rattle.cases.specs.Roots.{contains}
 use Rattle.cases.specs.Steps.{StepCallModel, first_unfit, first_missing, at_index, or_else, premises_objection, numbers_objection, conclusion_of, step_read, kit_objection, case_then_kit, step_objection, with_step}
 
@@ -54,28 +54,28 @@ premise_counted n ps e =
     (λ b. none_missing n 0 ps (from_at_index NoSuchStep (first_missing n 0 ps) (sym (cond-false _ (Some (NoSuchStep 2)) (at_index NoSuchStep (first_missing n 0 ps)) b) ∙ e)))
     (cases_Bool (ltb 2 (length ps)))
 
-module _ (c : CaseModel) (s : StepCallModel) where
+module _ (c : SteppedModel) (s : StepCallModel) where
   pub steps_full : 400 ≤ length c.steps → numbers_objection c s ≡ Some TooManySteps
   steps_full le = cond-true _ (Some TooManySteps) _ (le-leb 400 (length c.steps) le)
 
   module _ (few : length c.steps < 400) where
-    conclusion_next : numbers_objection c s ≡ or_else (at_index NotInTable (first_unfit (length c.formulas) 0 0 s.conclusion)) (premises_objection (length c.steps) s.premises)
+    conclusion_next : numbers_objection c s ≡ or_else (at_index NotInTable (first_unfit (length c.case.formulas) 0 0 s.conclusion)) (premises_objection (length c.steps) s.premises)
     conclusion_next = cond-false _ (Some TooManySteps) _ (lt-leb 400 (length c.steps) few)
 
-    pub conclusion_unfit : (f : CaseFault) → at_index NotInTable (first_unfit (length c.formulas) 0 0 s.conclusion) ≡ Some f → numbers_objection c s ≡ Some f
+    pub conclusion_unfit : (f : CaseFault) → at_index NotInTable (first_unfit (length c.case.formulas) 0 0 s.conclusion) ≡ Some f → numbers_objection c s ≡ Some f
     conclusion_unfit f e = conclusion_next ∙ ap (λ o. or_else o (premises_objection (length c.steps) s.premises)) e
 
-    pub premises_next : first_unfit (length c.formulas) 0 0 s.conclusion ≡ None → numbers_objection c s ≡ premises_objection (length c.steps) s.premises
+    pub premises_next : first_unfit (length c.case.formulas) 0 0 s.conclusion ≡ None → numbers_objection c s ≡ premises_objection (length c.steps) s.premises
     premises_next e = conclusion_next ∙ ap (λ o. or_else (at_index NotInTable o) (premises_objection (length c.steps) s.premises)) e
 
   -- nothing is objected only to a step that is one of the first 400
   pub taken_few : numbers_objection c s ≡ None → length c.steps < 400
   taken_few e = ⊎_elim (λ lt. lt) (λ le. absurd (some_is_none TooManySteps (sym (steps_full le) ∙ e))) (cases_lt (length c.steps) 400)
 
-  pub conclusion_fit : numbers_objection c s ≡ None → first_unfit (length c.formulas) 0 0 s.conclusion ≡ None
-  conclusion_fit e = fit (first_unfit (length c.formulas) 0 0 s.conclusion) refl
+  pub conclusion_fit : numbers_objection c s ≡ None → first_unfit (length c.case.formulas) 0 0 s.conclusion ≡ None
+  conclusion_fit e = fit (first_unfit (length c.case.formulas) 0 0 s.conclusion) refl
     where
-      fit : (o : Option ℕ) → first_unfit (length c.formulas) 0 0 s.conclusion ≡ o → first_unfit (length c.formulas) 0 0 s.conclusion ≡ None
+      fit : (o : Option ℕ) → first_unfit (length c.case.formulas) 0 0 s.conclusion ≡ o → first_unfit (length c.case.formulas) 0 0 s.conclusion ≡ None
       fit None q = q
       fit (Some i) q = absurd (some_is_none (NotInTable i) (sym (conclusion_unfit (taken_few e) (NotInTable i) (ap (at_index NotInTable) q)) ∙ e))
 
@@ -99,25 +99,23 @@ judgement_objected false b = refl
 judgement_objected true false = refl
 judgement_objected true true = refl
 
-pub objected_by_kit : (k : KitModel) (c : CaseModel) (s : StepCallModel) (st : StepModel) (r : Judgement) → numbers_objection c s ≡ None → step_read c s ≡ st → r ≡ judgement (k.knows s.rule) (k.allows c.formulas st) → step_objection k c s ≡ case_then_kit None (objected r)
+pub objected_by_kit : (k : KitModel) (c : SteppedModel) (s : StepCallModel) (st : StepModel) (r : Judgement) → numbers_objection c s ≡ None → step_read c s ≡ st → r ≡ judgement (k.knows s.rule) (k.allows c.case.formulas st) → step_objection k c s ≡ case_then_kit None (objected r)
 objected_by_kit k c s st r none same is =
-    ap (λ o. case_then_kit o (kit_objection (k.knows s.rule) (k.allows c.formulas (step_read c s)))) none
-    ∙ ap (case_then_kit None) (judgement_objected (k.knows s.rule) (k.allows c.formulas (step_read c s)) ∙ ap (λ x. objected (judgement (k.knows s.rule) (k.allows c.formulas x))) same ∙ ap objected (sym is))
+    ap (λ o. case_then_kit o (kit_objection (k.knows s.rule) (k.allows c.case.formulas (step_read c s)))) none
+    ∙ ap (case_then_kit None) (judgement_objected (k.knows s.rule) (k.allows c.case.formulas (step_read c s)) ∙ ap (λ x. objected (judgement (k.knows s.rule) (k.allows c.case.formulas x))) same ∙ ap objected (sym is))
 
 -- a step as the kit reads it, by the sets that stand for its conclusion and premises
-pub read_by_sets : (c : CaseModel) (s : StepCallModel) (st : Step) (ps : List Sequent) → st.rule ≡ s.rule → st.principal ≡ s.principal → member st.conclusion ≡ contains s.conclusion → map member ps ≡ map (conclusion_of c.steps) s.premises → step_read c s ≡ step_model c.formulas st ps
+pub read_by_sets : (c : SteppedModel) (s : StepCallModel) (st : Step) (ps : List Sequent) → st.rule ≡ s.rule → st.principal ≡ s.principal → member st.conclusion ≡ contains s.conclusion → map member ps ≡ map (conclusion_of c.steps) s.premises → step_read c s ≡ step_model c.case.formulas st ps
 read_by_sets c s st ps rule principal conclusion premises = λ i. record {
   rule = sym rule i;
   principal = sym principal i;
-  conclusion = ap (λ S. chosen S c.formulas) (sym conclusion) i;
-  premises = (sym (map-map (λ S. chosen S c.formulas) (conclusion_of c.steps) s.premises) ∙ ap (map (λ S. chosen S c.formulas)) (sym premises) ∙ map-map (λ S. chosen S c.formulas) member ps) i;
+  conclusion = ap (λ S. chosen S c.case.formulas) (sym conclusion) i;
+  premises = (sym (map-map (λ S. chosen S c.case.formulas) (conclusion_of c.steps) s.premises) ∙ ap (map (λ S. chosen S c.case.formulas)) (sym premises) ∙ map-map (λ S. chosen S c.case.formulas) member ps) i;
 }
 
 -- a case with one sequent more behind its conclusions
-pub with_pushed : (c : CaseModel) (old new : List Sequent) (x : Sequent) (S : ℕ → Bool) → c.steps ≡ map member old → new ≡ old ++ x ∷ [] → member x ≡ S → ◌≡◌ {A = CaseModel} (record { formulas = c.formulas; roots = c.roots; steps = map member new; run = c.run }) (with_step c S)
+pub with_pushed : (c : SteppedModel) (old new : List Sequent) (x : Sequent) (S : ℕ → Bool) → c.steps ≡ map member old → new ≡ old ++ x ∷ [] → member x ≡ S → ◌≡◌ {A = SteppedModel} (record { case = c.case; steps = map member new }) (with_step c S)
 with_pushed c old new x S was is same = λ i. record {
-  formulas = c.formulas;
-  roots = c.roots;
+  case = c.case;
   steps = (ap (map member) is ∙ map_push member old x ∙ ap₂ (λ l y. l ++ y ∷ []) (sym was) same) i;
-  run = c.run;
 }

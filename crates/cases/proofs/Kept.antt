@@ -9,7 +9,7 @@ use Rattle.tables.specs.declared.table.entering.Form.TheVariants.{Itself}
 use Rattle.cases.specs.Calls.{CallModel, form, step, state, loop, drop, verdict, after_call, after_calls, case_answer, answer_to, answers_to, recorded_by, run_after}
 use Rattle.cases.specs.Good.{Good}
 use Rattle.cases.specs.Loops.{loop_objection, with_run}
-use Rattle.cases.specs.Models.{RunModel, CaseModel, KitModel}
+use Rattle.cases.specs.Models.{RunModel, CaseModel, SteppedModel, KitModel}
 use Rattle.cases.specs.Promise.{KitLaw}
 use Rattle.cases.specs.Recordings.{event_objection, after_event, kept_unless, answer_unless}
 use Rattle.cases.specs.Roots.{all_below}
@@ -37,15 +37,15 @@ numbers_kept {fs} {gs} g (n ∷ ns) h =
     let p = and_parts _ _ h in
     ap (λ f. f ∷ map (numbered gs) ns) (numbered_grown n g (ltb-true n _ p.0)) ∙ ap (λ l. numbered fs n ∷ l) (numbers_kept g ns p.1)
 
-pub roots_kept : (k : KitModel) (c : CaseModel) (x : CallModel) → Good c → root_formulas (after_call k c x) ≡ root_formulas c
-roots_kept k c (form w) h = numbers_kept (after_grown c.formulas Itself w) c.roots h.rooted
-roots_kept k c (step s) h = same_changed root_formulas (root_formulas c) (step_objection k c s) _ c refl refl
+pub roots_kept : (k : KitModel) (c : SteppedModel) (x : CallModel) → Good c → root_formulas (after_call k c x).case ≡ root_formulas c.case
+roots_kept k c (form w) h = numbers_kept (after_grown c.case.formulas Itself w) c.case.roots h.rooted
+roots_kept k c (step s) h = same_changed (λ d. root_formulas d.case) (root_formulas c.case) (step_objection k c s) _ c refl refl
 roots_kept k c (state w) h = refl
-roots_kept k c (loop b) h = same_kept root_formulas (root_formulas c) (loop_objection c b) _ c refl refl
+roots_kept k c (loop b) h = same_kept root_formulas (root_formulas c.case) (loop_objection c.case b) _ c.case refl refl
 roots_kept k c drop h = refl
 roots_kept k c verdict h = refl
 
-pub all_roots_kept : (k : KitModel) → KitLaw k → (c : CaseModel) (xs : List CallModel) → Good c → root_formulas (after_calls k c xs) ≡ root_formulas c
+pub all_roots_kept : (k : KitModel) → KitLaw k → (c : SteppedModel) (xs : List CallModel) → Good c → root_formulas (after_calls k c xs).case ≡ root_formulas c.case
 all_roots_kept k law c [] h = refl
 all_roots_kept k law c (x ∷ xs) h = all_roots_kept k law (after_call k c x) xs (good_call k law c x h) ∙ roots_kept k c x h
 
@@ -59,19 +59,19 @@ loop_recorded c b None = refl
 loop_recorded c b (Some f) = refl
 
 -- the run after a call is told by the answer
-pub call_recorded : (k : KitModel) (c : CaseModel) (x : CallModel) → run_after c.run x (answer_to k c x) ≡ (after_call k c x).run
+pub call_recorded : (k : KitModel) (c : SteppedModel) (x : CallModel) → run_after c.case.run x (answer_to k c x) ≡ (after_call k c x).case.run
 call_recorded k c (form w) = refl
-call_recorded k c (step s) = sym (same_changed (λ d. d.run) c.run (step_objection k c s) _ c refl refl)
-call_recorded k c (state w) = state_recorded c.run w (event_objection c.run (State w)) refl
-call_recorded k c (loop b) = loop_recorded c b (loop_objection c b)
+call_recorded k c (step s) = sym (same_changed (λ d. d.case.run) c.case.run (step_objection k c s) _ c refl refl)
+call_recorded k c (state w) = state_recorded c.case.run w (event_objection c.case.run (State w)) refl
+call_recorded k c (loop b) = loop_recorded c.case b (loop_objection c.case b)
 call_recorded k c drop = refl
 call_recorded k c verdict = refl
 
 -- and so is the run after a list of calls, whatever answers come behind
-pub calls_recorded : (k : KitModel) (c : CaseModel) (xs : List CallModel) (more : List (Result ℕ CallFault)) → recorded_by c.run xs (answers_to k c xs ++ more) ≡ (after_calls k c xs).run
+pub calls_recorded : (k : KitModel) (c : SteppedModel) (xs : List CallModel) (more : List (Result ℕ CallFault)) → recorded_by c.case.run xs (answers_to k c xs ++ more) ≡ (after_calls k c xs).case.run
 calls_recorded k c [] more = refl
 calls_recorded k c (x ∷ xs) more =
     ap (λ m. recorded_by m xs (answers_to k (after_call k c x) xs ++ more)) (call_recorded k c x) ∙ calls_recorded k (after_call k c x) xs more
 
-pub recorded_is : (k : KitModel) (c : CaseModel) (xs : List CallModel) → recorded_by c.run xs (answers_to k c xs) ≡ (after_calls k c xs).run
-recorded_is k c xs = ap (recorded_by c.run xs) (sym (append-nil (answers_to k c xs))) ∙ calls_recorded k c xs []
+pub recorded_is : (k : KitModel) (c : SteppedModel) (xs : List CallModel) → recorded_by c.case.run xs (answers_to k c xs) ≡ (after_calls k c xs).case.run
+recorded_is k c xs = ap (recorded_by c.case.run xs) (sym (append-nil (answers_to k c xs))) ∙ calls_recorded k c xs []

@@ -10,7 +10,7 @@ use Rattle.tables.proofs.Chosen.{chosen_from}
 use Rattle.tables.specs.Listing.{numbered}
 use Rattle.tables.specs.Sets.{chosen}
 use Rattle.cases.specs.Good.{Good}
-use Rattle.cases.specs.Models.{CaseModel}
+use Rattle.cases.specs.Models.{CaseModel, SteppedModel}
 use Rattle.cases.specs.Recordings.{is_closed}
 use Rattle.cases.specs.Roots.{contains}
 use Rattle.cases.specs.Steps.{nothing}
@@ -86,23 +86,23 @@ closed_at : (o : Option ℕ) → is_closed o ≡ true → (b : ℕ) × (o ≡ So
 closed_at None e = absurd (false≢true e)
 closed_at (Some b) e = (b, refl)
 
-holds_means : (c : CaseModel) → Good c → verdict c ≡ 1 → NoRun (root_formulas c)
+holds_means : (c : SteppedModel) → Good c → verdict c ≡ 1 → NoRun (root_formulas c.case)
 holds_means c h e =
-    let i = some_of_at (only_roots c) c.steps nothing (verdict_one (some_of (only_roots c) c.steps) (is_closed c.run.back) e) in
-    no_run_more _ _ (only_roots_among c (get_or c.steps i.0 nothing) i.2) (h.refuted i.0 i.1)
+    let i = some_of_at (only_roots c.case) c.steps nothing (verdict_one (some_of (only_roots c.case) c.steps) (is_closed c.case.run.back) e) in
+    no_run_more _ _ (only_roots_among c.case (get_or c.steps i.0 nothing) i.2) (h.refuted i.0 i.1)
 
-counterexample_means : (c : CaseModel) → Good c → verdict c ≡ 2 → (r : Run) × Recorded c r × SatisfiesAll r (root_formulas c)
+counterexample_means : (c : SteppedModel) → Good c → verdict c ≡ 2 → (r : Run) × Recorded c.case r × SatisfiesAll r (root_formulas c.case)
 counterexample_means c h e =
-    let back = closed_at c.run.back (verdict_two (some_of (only_roots c) c.steps) (is_closed c.run.back) e) in
-    let r : Run = record { states = c.run.states; back = back.0; within = h.closed back.0 back.1 } in (
+    let back = closed_at c.case.run.back (verdict_two (some_of (only_roots c.case) c.steps) (is_closed c.case.run.back) e) in
+    let r : Run = record { states = c.case.run.states; back = back.0; within = h.closed back.0 back.1 } in (
       r,
       (refl, back.1),
       λ g m.
-          let n = from_map (numbered c.formulas) c.roots g m in
-          subst (Satisfies r) (sym n.2) ((satisfied_tells r (numbered c.formulas n.0)).0 (sym (looped_is r c.run.states back.0 (numbered c.formulas n.0) refl refl) ∙ h.shown back.0 n.0 back.1 n.1)),
+          let n = from_map (numbered c.case.formulas) c.case.roots g m in
+          subst (Satisfies r) (sym n.2) ((satisfied_tells r (numbered c.case.formulas n.0)).0 (sym (looped_is r c.case.run.states back.0 (numbered c.case.formulas n.0) refl refl) ∙ h.shown back.0 n.0 back.1 n.1)),
     )
 
-pub good_means : (c : CaseModel) → Good c → Means c (verdict c)
+pub good_means : (c : SteppedModel) → Good c → Means c.case (verdict c)
 good_means c h = record { holds = holds_means c h; counterexample = counterexample_means c h }
 
 -- never does one case hold while another with the same root formulas has a counterexample

@@ -11,9 +11,9 @@ use Rattle.cases.specs.declared.faults.CallFault.TheVariants.{Text, Case}
 use Rattle.cases.specs.declared.recorder.Event.TheVariants.{State, Loop, Drop}
 use Rattle.cases.specs.Drafts.{no_run, after_form}
 use Rattle.cases.specs.Loops.{loop_objection, with_run}
-use Rattle.cases.specs.Models.{RunModel, CaseModel, KitModel}
+use Rattle.cases.specs.Models.{RunModel, SteppedModel, KitModel}
 use Rattle.cases.specs.Recordings.{event_objection, after_event, answer_unless, kept_unless}
-use Rattle.cases.specs.Steps.{StepCallModel, step_answer, after_step}
+use Rattle.cases.specs.Steps.{StepCallModel, with_case, step_answer, after_step}
 use Rattle.cases.specs.Verdicts as v
 
 -- The calls that a case takes. A state is a word with a bit for each letter.
@@ -34,29 +34,29 @@ case_answer (Ok n) = Ok n
 case_answer (Err f) = Err (Case f)
 
 -- What a call is answered: a number, or a refusal.
-abbrev pub answer_to : KitModel → CaseModel → CallModel → Result ℕ CallFault
-answer_to k c (form w) = text_answer (answer c.formulas Itself w)
+abbrev pub answer_to : KitModel → SteppedModel → CallModel → Result ℕ CallFault
+answer_to k c (form w) = text_answer (answer c.case.formulas Itself w)
 answer_to k c (step s) = step_answer k c s
-answer_to k c (state w) = case_answer (answer_unless (event_objection c.run (State w)) (length c.run.states))
-answer_to k c (loop b) = case_answer (answer_unless (loop_objection c b) (length c.run.states))
+answer_to k c (state w) = case_answer (answer_unless (event_objection c.case.run (State w)) (length c.case.run.states))
+answer_to k c (loop b) = case_answer (answer_unless (loop_objection c.case b) (length c.case.run.states))
 answer_to k c drop = Ok 0
 answer_to k c verdict = Ok (v.verdict c)
 
 -- The case after a call.
-abbrev pub after_call : KitModel → CaseModel → CallModel → CaseModel
-after_call k c (form w) = after_form c w
+abbrev pub after_call : KitModel → SteppedModel → CallModel → SteppedModel
+after_call k c (form w) = with_case c (after_form c.case w)
 after_call k c (step s) = after_step k c s
-after_call k c (state w) = with_run c (kept_unless (event_objection c.run (State w)) (after_event c.run (State w)) c.run)
-after_call k c (loop b) = kept_unless (loop_objection c b) (with_run c (after_event c.run (Loop b))) c
-after_call k c drop = with_run c (after_event c.run Drop)
+after_call k c (state w) = with_case c (with_run c.case (kept_unless (event_objection c.case.run (State w)) (after_event c.case.run (State w)) c.case.run))
+after_call k c (loop b) = with_case c (kept_unless (loop_objection c.case b) (with_run c.case (after_event c.case.run (Loop b))) c.case)
+after_call k c drop = with_case c (with_run c.case (after_event c.case.run Drop))
 after_call k c verdict = c
 
 -- The answers to a list of calls, in order, and the case after them.
-abbrev pub answers_to : KitModel → CaseModel → List CallModel → List (Result ℕ CallFault)
+abbrev pub answers_to : KitModel → SteppedModel → List CallModel → List (Result ℕ CallFault)
 answers_to k c [] = []
 answers_to k c (x ∷ xs) = answer_to k c x ∷ answers_to k (after_call k c x) xs
 
-abbrev pub after_calls : KitModel → CaseModel → List CallModel → CaseModel
+abbrev pub after_calls : KitModel → SteppedModel → List CallModel → SteppedModel
 after_calls k c [] = c
 after_calls k c (x ∷ xs) = after_calls k (after_call k c x) xs
 

@@ -90,8 +90,8 @@ no_run = record { states = []; back = None }
 
 -- Seal: without a property, number 0 is added as a root. The answer is the count of root formulas.
 abbrev pub sealed : DraftModel → CaseModel
-sealed d = record { formulas = d.formulas; roots = cond d.property d.roots (noted d.roots 0); steps = []; run = no_run }
+sealed d = record { formulas = d.formulas; roots = cond d.property d.roots (noted d.roots 0); run = no_run }
 
 -- Form: the case afterwards.
 abbrev pub after_form : CaseModel → List ℕ → CaseModel
-after_form c w = record { formulas = after c.formulas Itself w; roots = c.roots; steps = c.steps; run = c.run }
+after_form c w = record { formulas = after c.formulas Itself w; roots = c.roots; run = c.run }

@@ -38,7 +38,7 @@ loop_objection c b = root_objection (event_objection c.run (Loop b)) (false_root
 
 -- The case with another run.
 abbrev pub with_run : CaseModel → RunModel → CaseModel
-with_run c m = record { formulas = c.formulas; roots = c.roots; steps = c.steps; run = m }
+with_run c m = record { formulas = c.formulas; roots = c.roots; run = m }
 
 -- What a loop's answer means, on the run with the held states and the back position: it is taken only if the run
 -- satisfies every root formula; it is refused for a root formula that the run does not satisfy, while it satisfies

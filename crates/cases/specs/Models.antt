@@ -17,13 +17,16 @@ pub record RunModel : Type 0 where
   pub states : List State
   pub back : Option ℕ
 
--- A case: the formulas by number, the numbers of the root formulas, the conclusions of the taken steps, each as a set
--- of numbers, and the recorded run.
+-- A case: the formulas by number, the numbers of the root formulas, and the recorded run.
 pub record CaseModel : Type 0 where
   pub formulas : List Formula
   pub roots : List ℕ
-  pub steps : List (ℕ → Bool)
   pub run : RunModel
+
+-- A case with its taken steps: the conclusion of each, as a set of numbers.
+pub record SteppedModel : Type 0 where
+  pub case : CaseModel
+  pub steps : List (ℕ → Bool)
 
 -- What a kit means to a case: the rules that it knows, and the steps that it allows, read in a table's formulas.
 pub record KitModel : Type 0 where

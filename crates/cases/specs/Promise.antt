@@ -10,9 +10,9 @@ use Rattle.kits.specs.Steps.{StepModel}
 use Rattle.cases.specs.declared.faults.CallFault.{CallFault}
 use Rattle.cases.specs.Calls.{CallModel, form, step, state, loop, verdict, answers_to, after_calls, recorded_by}
 use Rattle.cases.specs.Drafts.{no_run}
-use Rattle.cases.specs.Models.{RunModel, CaseModel, KitModel}
+use Rattle.cases.specs.Models.{RunModel, CaseModel, SteppedModel, KitModel}
 use Rattle.cases.specs.Roots.{contains}
-use Rattle.cases.specs.Steps.{StepCallModel, step_read, with_step}
+use Rattle.cases.specs.Steps.{StepCallModel, step_read, without_steps, with_step}
 use Rattle.cases.specs.Verdicts.{root_formulas}
 
 -- The law of a kit, and that it knows the rules of the steps that it allows.
@@ -32,16 +32,16 @@ among n (p ∷ ps) = nat_le 1 p && (nat_le p n && among n ps)
 
 -- A step of a derivation in a case whose earlier steps are taken: of formulas in the table, with at most two premises, all
 -- conclusions of earlier steps, and allowed by the kit.
-pub record DerivationStep (k : KitModel) (c : CaseModel) (s : StepCallModel) : Type 0 where
-  pub in_table : rising (length c.formulas) 0 s.conclusion ≡ true
+pub record DerivationStep (k : KitModel) (c : SteppedModel) (s : StepCallModel) : Type 0 where
+  pub in_table : rising (length c.case.formulas) 0 s.conclusion ≡ true
   pub few : length s.premises ≤ 2
   pub earlier : among (length c.steps) s.premises ≡ true
-  pub allowed : k.allows c.formulas (step_read c s) ≡ true
+  pub allowed : k.allows c.case.formulas (step_read c s) ≡ true
 
 -- A derivation: a non-empty list of such steps; the last conclusion has only root formulas.
-abbrev pub Derivation : KitModel → CaseModel → List StepCallModel → Type 0
+abbrev pub Derivation : KitModel → SteppedModel → List StepCallModel → Type 0
 Derivation k c [] = ⊥
-Derivation k c (s ∷ []) = DerivationStep k c s × ((n : ℕ) → contains s.conclusion n ≡ true → contains c.roots n ≡ true)
+Derivation k c (s ∷ []) = DerivationStep k c s × ((n : ℕ) → contains s.conclusion n ≡ true → contains c.case.roots n ≡ true)
 Derivation k c (s ∷ t ∷ ss) = DerivationStep k c s × Derivation k (with_step c (contains s.conclusion)) (t ∷ ss)
 
 -- The answers n, n + 1, .. to as many calls as the list has.
@@ -56,6 +56,6 @@ pub record Promise (k : KitModel) (c : CaseModel) (calls : List CallModel) (answ
   -- a counterexample is one: the recorded run satisfies every root formula
   pub counterexample_is_one : (before after : List CallModel) → calls ≡ before ++ verdict ∷ after → slice_index_or answers (length before) (Ok 0) ≡ Ok 2 → (r : Run) × (recorded_by no_run before answers ≡ record { states = r.states; back = Some r.back }) × SatisfiesAll r (root_formulas c)
   -- derivations are taken: after any form calls, a derivation of at most 400 steps is taken whole, and the verdict is 1
-  pub derivations_are_taken : (texts : List (List ℕ)) (steps : List StepCallModel) → calls ≡ map form texts ++ (map step steps ++ verdict ∷ []) → length steps ≤ 400 → Derivation k (after_calls k c (map form texts)) steps → answers ≡ answers_to k c (map form texts) ++ (counted 1 steps ++ Ok 1 ∷ [])
+  pub derivations_are_taken : (texts : List (List ℕ)) (steps : List StepCallModel) → calls ≡ map form texts ++ (map step steps ++ verdict ∷ []) → length steps ≤ 400 → Derivation k (after_calls k (without_steps c) (map form texts)) steps → answers ≡ answers_to k (without_steps c) (map form texts) ++ (counted 1 steps ++ Ok 1 ∷ [])
   -- runs are taken: after any form calls, a satisfying run of at most 64 states is taken whole, and the verdict is 2
-  pub runs_are_taken : (texts : List (List ℕ)) (words : List ℕ) (r : Run) → calls ≡ map form texts ++ (map state words ++ (loop r.back ∷ verdict ∷ [])) → ((i : ℕ) → i < length words → slice_index words i < 2 ^ 26) → length words ≤ 64 → r.states ≡ map state_of words → SatisfiesAll r (root_formulas c) → answers ≡ answers_to k c (map form texts) ++ (counted 0 words ++ (Ok (length words) ∷ Ok 2 ∷ []))
+  pub runs_are_taken : (texts : List (List ℕ)) (words : List ℕ) (r : Run) → calls ≡ map form texts ++ (map state words ++ (loop r.back ∷ verdict ∷ [])) → ((i : ℕ) → i < length words → slice_index words i < 2 ^ 26) → length words ≤ 64 → r.states ≡ map state_of words → SatisfiesAll r (root_formulas c) → answers ≡ answers_to k (without_steps c) (map form texts) ++ (counted 0 words ++ (Ok (length words) ∷ Ok 2 ∷ []))

@@ -8,7 +8,7 @@ use Rattle.cases.specs.declared.faults.CaseFault.{CaseFault}
 use Rattle.cases.specs.declared.faults.CaseFault.TheVariants.{NotInTable, NoSuchStep, TooManySteps}
 use Rattle.cases.specs.declared.faults.CallFault.{CallFault}
 use Rattle.cases.specs.declared.faults.CallFault.TheVariants.{Case, Kit}
-use Rattle.cases.specs.Models.{CaseModel, KitModel}
+use Rattle.cases.specs.Models.{CaseModel, SteppedModel, KitModel}
 use Rattle.cases.specs.Roots.{contains}
 
 -- What a step call hands in: a rule, a principal number, the conclusion by the numbers of its formulas, and the
@@ -41,8 +41,8 @@ abbrev pub premises_objection : ℕ → List ℕ → Option CaseFault
 premises_objection taken ps = cond (nat_lt 2 (length ps)) (Some (NoSuchStep 2)) (at_index NoSuchStep (first_missing taken 0 ps))
 
 -- What the case objects to a step, in the order of the checks.
-abbrev pub numbers_objection : CaseModel → StepCallModel → Option CaseFault
-numbers_objection c s = cond (nat_le 400 (length c.steps)) (Some TooManySteps) (or_else (at_index NotInTable (first_unfit (length c.formulas) 0 0 s.conclusion)) (premises_objection (length c.steps) s.premises))
+abbrev pub numbers_objection : SteppedModel → StepCallModel → Option CaseFault
+numbers_objection c s = cond (nat_le 400 (length c.steps)) (Some TooManySteps) (or_else (at_index NotInTable (first_unfit (length c.case.formulas) 0 0 s.conclusion)) (premises_objection (length c.steps) s.premises))
 
 -- the set with nothing in it
 abbrev pub nothing : ℕ → Bool
@@ -53,12 +53,12 @@ abbrev pub conclusion_of : List (ℕ → Bool) → ℕ → ℕ → Bool
 conclusion_of steps p = slice_index_or steps (p - 1) nothing
 
 -- The step as a kit reads it: sets of formulas for numbers.
-abbrev pub step_read : CaseModel → StepCallModel → StepModel
+abbrev pub step_read : SteppedModel → StepCallModel → StepModel
 step_read c s = record {
   rule = s.rule;
   principal = s.principal;
-  conclusion = chosen (contains s.conclusion) c.formulas;
-  premises = map (λ p. chosen (conclusion_of c.steps p) c.formulas) s.premises;
+  conclusion = chosen (contains s.conclusion) c.case.formulas;
+  premises = map (λ p. chosen (conclusion_of c.steps p) c.case.formulas) s.premises;
 }
 
 abbrev pub kit_objection : Bool → Bool → Option KitFault
@@ -72,12 +72,19 @@ case_then_kit None (Some f) = Some (Kit f)
 case_then_kit None None = None
 
 -- What is objected to a step: by the case, then by the kit.
-abbrev pub step_objection : KitModel → CaseModel → StepCallModel → Option CallFault
-step_objection k c s = case_then_kit (numbers_objection c s) (kit_objection (k.knows s.rule) (k.allows c.formulas (step_read c s)))
+abbrev pub step_objection : KitModel → SteppedModel → StepCallModel → Option CallFault
+step_objection k c s = case_then_kit (numbers_objection c s) (kit_objection (k.knows s.rule) (k.allows c.case.formulas (step_read c s)))
+
+-- A case with no steps; and a case with the steps of another.
+abbrev pub without_steps : CaseModel → SteppedModel
+without_steps m = record { case = m; steps = [] }
+
+abbrev pub with_case : SteppedModel → CaseModel → SteppedModel
+with_case c m = record { case = m; steps = c.steps }
 
 -- The case with one taken step more.
-abbrev pub with_step : CaseModel → (ℕ → Bool) → CaseModel
-with_step c S = record { formulas = c.formulas; roots = c.roots; steps = c.steps ++ S ∷ []; run = c.run }
+abbrev pub with_step : SteppedModel → (ℕ → Bool) → SteppedModel
+with_step c S = record { case = c.case; steps = c.steps ++ S ∷ [] }
 
 abbrev pub number_unless : Option CallFault → ℕ → Result ℕ CallFault
 number_unless None n = Ok n
@@ -88,8 +95,8 @@ changed_unless None new old = new
 changed_unless (Some f) new old = old
 
 -- Step: the answer, and the case afterwards.
-abbrev pub step_answer : KitModel → CaseModel → StepCallModel → Result ℕ CallFault
+abbrev pub step_answer : KitModel → SteppedModel → StepCallModel → Result ℕ CallFault
 step_answer k c s = number_unless (step_objection k c s) (length c.steps + 1)
 
-abbrev pub after_step : KitModel → CaseModel → StepCallModel → CaseModel
+abbrev pub after_step : KitModel → SteppedModel → StepCallModel → SteppedModel
 after_step k c s = changed_unless (step_objection k c s) (with_step c (contains s.conclusion)) c

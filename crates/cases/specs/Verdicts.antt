@@ -6,7 +6,7 @@ use Rattle.calculus.specs.Sequents.{◌∈◌, SatisfiesAll, NoRun}
 use Rattle.tables.specs.Listing.{numbered}
 use Rattle.cases.specs.declared.verdict.Verdict.{Verdict}
 use Rattle.cases.specs.declared.verdict.Verdict.TheVariants.{Undecided, Holds, Counterexample}
-use Rattle.cases.specs.Models.{CaseModel}
+use Rattle.cases.specs.Models.{CaseModel, SteppedModel}
 use Rattle.cases.specs.Recordings.{is_closed}
 use Rattle.cases.specs.Roots.{contains}
 
@@ -28,8 +28,8 @@ some_of test [] = false
 some_of test (x ∷ xs) = test x || some_of test xs
 
 -- 1 (holds) if some taken step's conclusion has only root formulas, else 2 (counterexample) if the run is closed, else 0.
-abbrev pub verdict : CaseModel → ℕ
-verdict c = cond (some_of (only_roots c) c.steps) 1 (cond (is_closed c.run.back) 2 0)
+abbrev pub verdict : SteppedModel → ℕ
+verdict c = cond (some_of (only_roots c.case) c.steps) 1 (cond (is_closed c.case.run.back) 2 0)
 
 abbrev pub verdict_number : Verdict → ℕ
 verdict_number Undecided = 0

@@ -15,13 +15,16 @@ use Rattle.cases.specs.declared.call.Entry.{Entry}
 use Rattle.cases.specs.declared.call.StepCall.{StepCall}
 use Rattle.cases.specs.declared.call.Call.{Call}
 use Rattle.cases.specs.declared.call.Call.TheVariants.{Form, Step, State, Loop, Drop, Verdict}
-use Rattle.cases.specs.Models.{DraftModel, CaseModel, KitModel}
+use Rattle.cases.specs.Models.{DraftModel, CaseModel, SteppedModel, KitModel}
 
 abbrev pub draft_model : {K : Type 0} → Draft K → DraftModel
 draft_model d = record { formulas = formulas (vec_items d.table.shapes); roots = plain (vec_items d.roots.numbers); clauses = d.clauses; property = d.property }
 
 abbrev pub case_model : {K : Type 0} → Case K → CaseModel
-case_model c = record { formulas = formulas (vec_items c.table.shapes); roots = plain (vec_items c.roots.numbers); steps = map member (vec_items c.steps); run = run_model c.run }
+case_model c = record { formulas = formulas (vec_items c.table.shapes); roots = plain (vec_items c.roots.numbers); run = run_model c.run }
+
+abbrev pub stepped_model : {K : Type 0} → Case K → SteppedModel
+stepped_model c = record { case = case_model c; steps = map member (vec_items c.steps) }
 
 -- What a kit means to a case, by the ghost members of the interface.
 abbrev pub kit_model : {K : Type 0} → (K → ℕ → Bool) → (K → List Formula → StepModel → Bool) → K → KitModel
@@ -46,6 +49,6 @@ abbrev pub entry_answer : Entry → Result ℕ CallFault
 entry_answer e = e.answer
 
 -- Entries with their answers, where the first finds the case c.
-abbrev pub answered : KitModel → CaseModel → List Entry → List Entry
+abbrev pub answered : KitModel → SteppedModel → List Entry → List Entry
 answered k c [] = []
 answered k c (e ∷ es) = record { call = e.call; answer = answer_to k c (entry_call e) } ∷ answered k (after_call k c (entry_call e)) es

@@ -53,5 +53,6 @@ pub struct Case<K> {
     run: Recorder,
     ghost room: { 400 ≤ vec_capacity steps },
     ghost few: { vec_len steps ≤ 400 },
-    ghost good: { ∥ Good (record { formulas = formulas table.shapes.items; roots = plain roots.numbers.items; steps = map member steps.items; run = run_model run }) ∥₁ },
+    ghost inside: { all_below (length (formulas table.shapes.items)) (plain roots.numbers.items) ≡ true },
+    ghost good: { ∥ Good (record { case = record { formulas = formulas table.shapes.items; roots = plain roots.numbers.items; run = run_model run }; steps = map member steps.items }) ∥₁ },
 }

@@ -6,6 +6,7 @@ mod kit;
 mod pair;
 mod steps;
 
+pub use calculus::rules_stand;
 pub use faults::KitFault;
 pub use kit::Kit;
 pub use pair::Pair;

@@ -7,7 +7,7 @@ ghost use Rattle.tables.specs.Answers.{answer, by_number};
 ghost use Rattle.tables.specs.declared.table.entering.Form.TheVariants.{Itself};
 ghost use Rattle.cases.specs.Drafts.{kind_of, RootOf, objection, clause, after_clause, sealed, after_form};
 ghost use Rattle.cases.specs.Results.{call_number};
-ghost use Rattle.cases.specs.Views.{draft_model, case_model};
+ghost use Rattle.cases.specs.Views.{draft_model, case_model, stepped_model};
 
 use super::super::faults::{CallFault, CaseFault};
 use super::super::kind::ClauseKind;
@@ -82,6 +82,7 @@ impl<K: Kit + Drop> Draft<K> {
     pub fn seal(self) -> (Case<K>, usize)
         ensures value { result.1 ≡ length (sealed (draft_model self)).roots }
         ensures after { case_model result.0 ≡ sealed (draft_model self) }
+        ensures steps { (stepped_model result.0).steps ≡ [] }
         ensures kit { result.0.kit ≡ self.kit }
     {
         let Draft {
@@ -117,6 +118,7 @@ impl<K: Kit + Drop> Case<K> {
         ensures value { by_number result ≡ answer (case_model self.old).formulas Itself text.now }
         ensures names { IfOk result (λ n. (t : Tree) × Spells implication t text.now × Names (case_model self.new).formulas n (normal t)) }
         ensures after { case_model self.new ≡ after_form (case_model self.old) text.now }
+        ensures steps { (stepped_model self.new).steps ≡ (stepped_model self.old).steps }
         ensures kit { self.new.kit ≡ self.old.kit }
     {
         self.table.enter(&mut self.syntax, text, Form::Itself)

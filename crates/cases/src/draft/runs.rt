@@ -4,7 +4,7 @@ ghost use Rattle.pltl.specs.Runs.{Run};
 ghost use Rattle.cases.specs.declared.recorder.Event.TheVariants.{State, Loop, Drop as Dropped};
 ghost use Rattle.cases.specs.Loops.{false_root, loop_objection, with_run, LoopMeans, RowMeans};
 ghost use Rattle.cases.specs.Recordings.{event_objection, after_event, answer_unless, kept_unless};
-ghost use Rattle.cases.specs.Views.{case_model};
+ghost use Rattle.cases.specs.Views.{case_model, stepped_model};
 
 use super::super::faults::CaseFault;
 use super::super::recorder::Event;
@@ -17,6 +17,7 @@ impl<K: Kit + Drop> Case<K> {
     pub fn state(&mut self, letters: u32) -> Result<usize, CaseFault>
         ensures value { result ≡ answer_unless (event_objection (case_model self.old).run (State letters)) (length (case_model self.old).run.states) }
         ensures after { case_model self.new ≡ with_run (case_model self.old) (kept_unless (event_objection (case_model self.old).run (State letters)) (after_event (case_model self.old).run (State letters)) (case_model self.old).run) }
+        ensures steps { (stepped_model self.new).steps ≡ (stepped_model self.old).steps }
         ensures kit { self.new.kit ≡ self.old.kit }
     {
         self.run.record(Event::State(letters))
@@ -26,6 +27,7 @@ impl<K: Kit + Drop> Case<K> {
     pub fn close_loop(&mut self, back: usize) -> Result<usize, CaseFault>
         ensures value { result ≡ answer_unless (loop_objection (case_model self.old) back) (length (case_model self.old).run.states) }
         ensures after { case_model self.new ≡ kept_unless (loop_objection (case_model self.old) back) (with_run (case_model self.old) (after_event (case_model self.old).run (Loop back))) (case_model self.old) }
+        ensures steps { (stepped_model self.new).steps ≡ (stepped_model self.old).steps }
         ensures means { (u : Run) → u.states ≡ (case_model self.old).run.states → u.back ≡ back → LoopMeans (case_model self.old) u result }
         ensures kit { self.new.kit ≡ self.old.kit }
     {
@@ -51,6 +53,7 @@ impl<K: Kit + Drop> Case<K> {
     pub fn drop_run(&mut self) -> usize
         ensures value { result ≡ 0 }
         ensures after { case_model self.new ≡ with_run (case_model self.old) (after_event (case_model self.old).run Dropped) }
+        ensures steps { (stepped_model self.new).steps ≡ (stepped_model self.old).steps }
         ensures kit { self.new.kit ≡ self.old.kit }
     {
         let _ = self.run.record(Event::Drop);

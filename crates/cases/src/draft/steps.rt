@@ -6,7 +6,7 @@ ghost use Rattle.cases.specs.declared.faults.CaseFault.TheVariants.{NotInTable};
 ghost use Rattle.cases.specs.Roots.{contains};
 ghost use Rattle.cases.specs.Steps.{first_unfit, first_missing, at_index, premises_objection, numbers_objection, conclusion_of, step_objection, step_answer, after_step};
 ghost use Rattle.cases.specs.Verdicts.{some_of, only_roots, verdict, verdict_number, Means, SameFormulas, root_formulas};
-ghost use Rattle.cases.specs.Views.{case_model, kit_model, step_call_model};
+ghost use Rattle.cases.specs.Views.{case_model, stepped_model, kit_model, step_call_model};
 
 use super::super::call::StepCall;
 use super::super::faults::{CallFault, CaseFault};
@@ -21,8 +21,8 @@ const MOST_PREMISES: usize = 2;
 impl<K: Kit + Drop> Case<K> {
     // Takes a step: its number, counted from 1.
     pub fn step(&mut self, step: StepCall<'_>) -> Result<usize, CallFault>
-        ensures value { result ≡ step_answer (kit_model K.Kit.knows K.Kit.allows self.old.kit) (case_model self.old) (step_call_model step.entry) }
-        ensures after { case_model self.new ≡ after_step (kit_model K.Kit.knows K.Kit.allows self.old.kit) (case_model self.old) (step_call_model step.entry) }
+        ensures value { result ≡ step_answer (kit_model K.Kit.knows K.Kit.allows self.old.kit) (stepped_model self.old) (step_call_model step.entry) }
+        ensures after { stepped_model self.new ≡ after_step (kit_model K.Kit.knows K.Kit.allows self.old.kit) (stepped_model self.old) (step_call_model step.entry) }
         ensures kit { self.new.kit ≡ self.old.kit }
     {
         let conclusion = self.judged(step)?;
@@ -32,7 +32,7 @@ impl<K: Kit + Drop> Case<K> {
 
     // The conclusion of a step that is allowed, or what is objected to the step.
     fn judged(&self, step: StepCall<'_>) -> Result<Sequent, CallFault>
-        ensures { MatchResult result (λ s. (step_objection (kit_model K.Kit.knows K.Kit.allows self.now.kit) (case_model self.now) (step_call_model step.entry) ≡ None) × (member s ≡ contains step.entry.conclusion.now)) (λ f. step_objection (kit_model K.Kit.knows K.Kit.allows self.now.kit) (case_model self.now) (step_call_model step.entry) ≡ Some f) }
+        ensures { MatchResult result (λ s. (step_objection (kit_model K.Kit.knows K.Kit.allows self.now.kit) (stepped_model self.now) (step_call_model step.entry) ≡ None) × (member s ≡ contains step.entry.conclusion.now)) (λ f. step_objection (kit_model K.Kit.knows K.Kit.allows self.now.kit) (stepped_model self.now) (step_call_model step.entry) ≡ Some f) }
     {
         let conclusion = self.admitted_step(step)?;
         let premises = self.held(step.premises);
@@ -53,7 +53,7 @@ impl<K: Kit + Drop> Case<K> {
 
     // The conclusion of a step as a set, or what the case objects to the step before its kit is asked.
     fn admitted_step(&self, step: StepCall<'_>) -> Result<Sequent, CaseFault>
-        ensures { MatchResult result (λ s. (numbers_objection (case_model self.now) (step_call_model step.entry) ≡ None) × ((k : ℕ) → member s k ≡ contains step.entry.conclusion.now k)) (λ f. numbers_objection (case_model self.now) (step_call_model step.entry) ≡ Some f) }
+        ensures { MatchResult result (λ s. (numbers_objection (stepped_model self.now) (step_call_model step.entry) ≡ None) × ((k : ℕ) → member s k ≡ contains step.entry.conclusion.now k)) (λ f. numbers_objection (stepped_model self.now) (step_call_model step.entry) ≡ Some f) }
     {
         if self.steps.len() >= MOST_STEPS {
             return Err(CaseFault::TooManySteps);
@@ -71,7 +71,7 @@ impl<K: Kit + Drop> Case<K> {
     // The conclusions of up to two taken steps, by their numbers.
     fn held(&self, premises: &[u16]) -> [Sequent; 2]
         requires { premises_objection (vec_len self.now.steps) premises.now ≡ None }
-        ensures { map member (take (length premises.now) result) ≡ map (conclusion_of (case_model self.now).steps) premises.now }
+        ensures { map member (take (length premises.now) result) ≡ map (conclusion_of (stepped_model self.now).steps) premises.now }
     {
         let mut held = [Sequent::empty(); 2];
         for (i, premise) in premises.iter().enumerate() {
@@ -82,7 +82,7 @@ impl<K: Kit + Drop> Case<K> {
 
     // Holds, if some taken step's conclusion has only root formulas, else a counterexample, if the run is closed.
     pub fn verdict(&self) -> Verdict
-        ensures value { verdict_number result ≡ verdict (case_model self.now) }
+        ensures value { verdict_number result ≡ verdict (stepped_model self.now) }
         ensures means { Means (case_model self.now) (verdict_number result) }
     {
         if self.has_refuted_roots() {
@@ -96,7 +96,7 @@ impl<K: Kit + Drop> Case<K> {
 
     // Whether some taken step's conclusion has only root formulas.
     fn has_refuted_roots(&self) -> bool
-        ensures { result ≡ some_of (only_roots (case_model self.now)) (case_model self.now).steps }
+        ensures { result ≡ some_of (only_roots (case_model self.now)) (stepped_model self.now).steps }
     {
         let roots = self.roots.sequent();
         for conclusion in self.steps.iter() {
@@ -155,7 +155,7 @@ fn first_missing(numbers: &[u16], count: usize) -> Option<usize>
 // The verdicts of two cases. Where they have the same root formulas, never does one hold while the other has a
 // counterexample, whatever kits they have.
 pub fn verdicts<A: Kit + Drop, B: Kit + Drop>(one: &Case<A>, other: &Case<B>) -> (Verdict, Verdict)
-    ensures value { (verdict_number result.0 ≡ verdict (case_model one.now)) × (verdict_number result.1 ≡ verdict (case_model other.now)) }
+    ensures value { (verdict_number result.0 ≡ verdict (stepped_model one.now)) × (verdict_number result.1 ≡ verdict (stepped_model other.now)) }
     ensures never_both { SameFormulas (root_formulas (case_model one.now)) (root_formulas (case_model other.now)) → (verdict_number result.0 ≡ 1 → verdict_number result.1 ≢ 2) × (verdict_number result.0 ≡ 2 → verdict_number result.1 ≢ 1) }
 {
     (one.verdict(), other.verdict())

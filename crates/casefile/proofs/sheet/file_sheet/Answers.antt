@@ -9,21 +9,21 @@ kit_sheet-requires c =
     let n = c.in-Some.ensures in
     let m = c.new-lines.ensures in
     let room = first_room c.requires.ended m.file m.at (record { same = n.file; some = n.some; passed = n.passed }) in
-    record { ended = subst LinesEnd (sym (n.file ∙ m.file)) c.requires.ended; room = omega (arith, room, c.requires.room); few = omega (arith, room, c.requires.few) }
+    record { ended = subst LinesEnd (sym (n.file ∙ m.file)) c.requires.ended; room = omega (arith, room, c.requires.room) }
 
 pub kit_sheet-requires-in-Ok-Units : goal.kit_sheet-requires-in-Ok-Units
 kit_sheet-requires-in-Ok-Units c =
     let n = c.in-Some.ensures in
     let m = c.new-lines.ensures in
     let room = first_room c.requires.ended m.file m.at (record { same = n.file; some = n.some; passed = n.passed }) in
-    record { ended = subst LinesEnd (sym (n.file ∙ m.file)) c.requires.ended; room = omega (arith, room, c.requires.room); few = omega (arith, room, c.requires.few) }
+    record { ended = subst LinesEnd (sym (n.file ∙ m.file)) c.requires.ended; room = omega (arith, room, c.requires.room) }
 
 pub kit_sheet-requires-in-Ok-Both : goal.kit_sheet-requires-in-Ok-Both
 kit_sheet-requires-in-Ok-Both c =
     let n = c.in-Some.ensures in
     let m = c.new-lines.ensures in
     let room = first_room c.requires.ended m.file m.at (record { same = n.file; some = n.some; passed = n.passed }) in
-    record { ended = subst LinesEnd (sym (n.file ∙ m.file)) c.requires.ended; room = omega (arith, room, c.requires.room); few = omega (arith, room, c.requires.few) }
+    record { ended = subst LinesEnd (sym (n.file ∙ m.file)) c.requires.ended; room = omega (arith, room, c.requires.room) }
 
 pub put_fault-requires : goal.put_fault-requires
 put_fault-requires c =

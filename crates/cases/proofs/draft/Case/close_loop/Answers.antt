@@ -1,7 +1,8 @@
 use Rattle.std.proofs.Common.{◌≡◌, sym, refl, ◌∙◌, subst}
 use Rattle.cases.specs.Good.{Good}
 use Rattle.cases.specs.Recordings.{run_model}
-use Rattle.cases.specs.Views.{case_model}
+use Rattle.cases.specs.Steps.{with_case}
+use Rattle.cases.specs.Views.{case_model, stepped_model}
 use Rattle.cases.proofs.Goods.{good_from, good_loop}
 use Rattle.cases.proofs.Looped.{loop_taken, loop_refused, taken_means, refused_means}
 use Rattle.cases.proofs.draft.Case.close_loop.Goals as goal
@@ -11,7 +12,7 @@ returns-in-Some g c =
     let m = case_model c.args.self.now in
     let found = c.in-Some.ensures in
     let a = loop_refused m c.args.back c.in_ok-count.count c.in-Some.number c.in_ok-count.ensures.value found in
-    record { value = a.0; after = a.1; means = λ u p q. refused_means m c.args.back u p q c.in-Some.number (sym found); kit = refl }
+    record { value = a.0; after = a.1; means = λ u p q. refused_means m c.args.back u p q c.in-Some.number (sym found); steps = refl; kit = refl }
 
 pub invariant_of-self : goal.invariant_of-self
 invariant_of-self g c =
@@ -19,11 +20,11 @@ invariant_of-self g c =
     let m = case_model t in
     let none = c.in_default.ensures in
     let a = loop_taken m c.args.back c.in_ok-count.count _ c.in_ok-count.ensures.value c.in_ok-count.ensures.after none in
-    record { room = t.room; few = t.few; good = ∣ subst Good (sym a.1) (good_loop m c.args.back (good_from t.good)) ∣₁ }
+    record { room = t.room; few = t.few; inside = t.inside; good = ∣ subst (λ n. Good (with_case (stepped_model t) n)) (sym a.1) (good_loop (stepped_model t) c.args.back (good_from t.good)) ∣₁ }
 
 pub returns : goal.returns
 returns g c =
     let m = case_model c.args.self.now in
     let none = c.in_default.ensures in
     let a = loop_taken m c.args.back c.in_ok-count.count _ c.in_ok-count.ensures.value c.in_ok-count.ensures.after none in
-    record { value = a.0; after = a.1; means = λ u p q. taken_means m c.args.back u p q c.in_ok-count.count (sym none); kit = refl }
+    record { value = a.0; after = a.1; means = λ u p q. taken_means m c.args.back u p q c.in_ok-count.count (sym none); steps = refl; kit = refl }

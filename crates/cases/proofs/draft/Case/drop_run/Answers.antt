@@ -1,11 +1,12 @@
 use Rattle.std.proofs.Common.{sym, subst}
 use Rattle.cases.specs.Good.{Good}
 use Rattle.cases.specs.Loops.{with_run}
-use Rattle.cases.specs.Views.{case_model}
+use Rattle.cases.specs.Steps.{with_case}
+use Rattle.cases.specs.Views.{case_model, stepped_model}
 use Rattle.cases.proofs.Goods.{good_from, good_drop}
 use Rattle.cases.proofs.draft.Case.drop_run.Goals as goal
 
 pub invariant_of-self : goal.invariant_of-self
 invariant_of-self g c =
     let t = c.args.self.now in
-    record { room = t.room; few = t.few; good = ∣ subst (λ r. Good (with_run (case_model t) r)) (sym c.record.ensures.after) (good_drop (case_model t) (good_from t.good)) ∣₁ }
+    record { room = t.room; few = t.few; inside = t.inside; good = ∣ subst (λ r. Good (with_case (stepped_model t) (with_run (case_model t) r))) (sym c.record.ensures.after) (good_drop (stepped_model t) (good_from t.good)) ∣₁ }

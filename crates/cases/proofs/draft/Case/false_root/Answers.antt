@@ -10,4 +10,4 @@ pub returns : goal.returns
 returns g c =
     let fs = formulas (vec_items c.args.self.now.table.shapes) in
     let rows = subst (λ x. RowsOf (recorded x.letters x.len) c.args.back fs c.rows-rows.result.words) c.states.ensures c.rows-rows.ensures in
-    c.least_false.ensures ∙ false_root_is (case_model c.args.self.now) c.args.back c.rows-rows.result.words c.requires rows (good_from c.args.self.now.good).rooted
+    c.least_false.ensures ∙ false_root_is (case_model c.args.self.now) c.args.back c.rows-rows.result.words c.requires rows c.args.self.now.inside

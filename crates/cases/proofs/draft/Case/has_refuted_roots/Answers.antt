@@ -7,7 +7,7 @@ use Rattle.tables.specs.Sets.{member}
 use Rattle.tables.proofs.Listed.{length_formulas}
 use Rattle.cases.specs.Steps.{nothing}
 use Rattle.cases.specs.Verdicts.{some_of, only_roots}
-use Rattle.cases.specs.Views.{case_model}
+use Rattle.cases.specs.Views.{case_model, stepped_model}
 use Rattle.cases.proofs.Goods.{good_from}
 use Rattle.cases.proofs.RootsOnly.{within_is_only_roots}
 use Rattle.cases.proofs.draft.Case.has_refuted_roots.Goals as goal
@@ -28,7 +28,7 @@ returns-then-is_within g c =
     let x = get_or items i nil in
     let tells = subst (λ l. Decides c.is_within.result ((k : ℕ) → member (get_or l i nil) k ≡ true → member c.sequent-roots.result k ≡ true)) is c.is_within.ensures in
     let here = get_or-map member items i nil nothing inside in
-    let taken : i < length m.steps = omega (arith, length-map items member) in
+    let taken : i < length (stepped_model t).steps = omega (arith, length-map items member) in
     let only = within_is_only_roots m (member x) (member c.sequent-roots.result) c.is_within.result few c.sequent-roots.ensures (λ k h. (good_from t.good).inside i k taken (ap (λ S. S k) here ∙ h)) tells in
     let more = at_drop_more (λ l. some_of (only_roots m) (map member l)) items i nil inside in
     sym (sym c.loop-conclusion.invariant ∙ more ∙ or_left _ _ (only ∙ c.if-is_within.true))
@@ -46,7 +46,7 @@ loop-conclusion-preserved g c =
     let x = get_or items i nil in
     let tells = subst (λ l. Decides c.is_within.result ((k : ℕ) → member (get_or l i nil) k ≡ true → member c.sequent-roots.result k ≡ true)) is c.is_within.ensures in
     let here = get_or-map member items i nil nothing inside in
-    let taken : i < length m.steps = omega (arith, length-map items member) in
+    let taken : i < length (stepped_model t).steps = omega (arith, length-map items member) in
     let only = within_is_only_roots m (member x) (member c.sequent-roots.result) c.is_within.result few c.sequent-roots.ensures (λ k h. (good_from t.good).inside i k taken (ap (λ S. S k) here ∙ h)) tells in
     let more = at_drop_more (λ l. some_of (only_roots m) (map member l)) items i nil inside in
     sym (ap (λ b. b || some_of (only_roots m) (map member (drop (i + 1) items))) (only ∙ c.if-is_within.false)) ∙ sym more ∙ c.loop-conclusion.invariant

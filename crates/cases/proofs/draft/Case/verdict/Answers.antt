@@ -2,19 +2,21 @@ use Rattle.std.proofs.Common.{◌≡◌, ℕ, cond, sym, ◌∙◌, subst}
 use Rattle.std.proofs.lemmas.Bool.{cond-true, cond-false}
 use Rattle.cases.specs.Recordings.{is_closed}
 use Rattle.cases.specs.Verdicts.{some_of, only_roots, verdict, Means}
-use Rattle.cases.specs.Views.{case_model}
+use Rattle.cases.specs.Views.{stepped_model}
 use Rattle.cases.proofs.Goods.{good_from}
 use Rattle.cases.proofs.Meant.{good_means}
 use Rattle.cases.proofs.draft.Case.verdict.Goals as goal
 
 pub returns-then-has_refuted_roots : goal.returns-then-has_refuted_roots
 returns-then-has_refuted_roots g c =
-    let m = case_model c.args.self.now in
-    let is : 1 ≡ verdict m = sym (cond-true (some_of (only_roots m) m.steps) 1 (cond (is_closed m.run.back) 2 0) (sym c.if-has_refuted_roots.ensures)) in
-    record { value = is; means = subst (Means m) (sym is) (good_means m (good_from c.args.self.now.good)) }
+    let s = stepped_model c.args.self.now in
+    let m = s.case in
+    let is : 1 ≡ verdict s = sym (cond-true (some_of (only_roots m) s.steps) 1 (cond (is_closed m.run.back) 2 0) (sym c.if-has_refuted_roots.ensures)) in
+    record { value = is; means = subst (Means m) (sym is) (good_means s (good_from c.args.self.now.good)) }
 
 pub returns-then-is_closed : goal.returns-then-is_closed
 returns-then-is_closed g c =
-    let m = case_model c.args.self.now in
-    let is : 2 ≡ verdict m = sym (cond-false (some_of (only_roots m) m.steps) 1 (cond (is_closed m.run.back) 2 0) (sym c.if-has_refuted_roots.ensures) ∙ cond-true (is_closed m.run.back) 2 0 (sym c.if-is_closed.ensures)) in
-    record { value = is; means = subst (Means m) (sym is) (good_means m (good_from c.args.self.now.good)) }
+    let s = stepped_model c.args.self.now in
+    let m = s.case in
+    let is : 2 ≡ verdict s = sym (cond-false (some_of (only_roots m) s.steps) 1 (cond (is_closed m.run.back) 2 0) (sym c.if-has_refuted_roots.ensures) ∙ cond-true (is_closed m.run.back) 2 0 (sym c.if-is_closed.ensures)) in
+    record { value = is; means = subst (Means m) (sym is) (good_means s (good_from c.args.self.now.good)) }
