@@ -19,6 +19,7 @@ use Rattle.cases.specs.Calls.{CallModel, form, step, verdict, answers_to}
 use Rattle.cases.specs.Drafts.{clause, after_clause, sealed}
 use Rattle.cases.specs.Models.{DraftModel, KitModel}
 use Rattle.cases.specs.Roots.{contains}
+use Rattle.cases.specs.Steps.{without_steps}
 
 -- an empty table has true and false alone
 abbrev pub empty : List Formula
@@ -125,4 +126,4 @@ pub record MarkedSamples : Type 0 where
   pub trans_answered : clause with_init 3 (codes "!b->X!b") ≡ Ok 8
   pub prop_answered : clause with_trans 4 (codes "G!b") ≡ Ok 11
   pub roots_counted : length (sealed drafted).roots ≡ 3
-  pub derivation_taken : answers_to by_sequents (sealed drafted) evidence ≡ Ok 14 ∷ Ok 1 ∷ Ok 2 ∷ Ok 3 ∷ Ok 4 ∷ Ok 5 ∷ Ok 6 ∷ Ok 1 ∷ []
+  pub derivation_taken : answers_to by_sequents (without_steps (sealed drafted)) evidence ≡ Ok 14 ∷ Ok 1 ∷ Ok 2 ∷ Ok 3 ∷ Ok 4 ∷ Ok 5 ∷ Ok 6 ∷ Ok 1 ∷ []
