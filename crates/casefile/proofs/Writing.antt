@@ -1,5 +1,5 @@
 -- Writing into a buffer, piece by piece. Assumes nothing.
-use Rattle.std.proofs.Common.{◌≡◌, ℕ, suc, ◌+◌, ◌-◌, ◌^◌, ◌<◌, ◌≤◌, List, [], ◌∷◌, ◌++◌, length, take, drop, set, codes, decimal, sym, refl, ap, ◌∙◌, subst, append_assoc, add-one, arith, lit<}
+use Rattle.std.proofs.Common.{◌≡◌, ℕ, ◌+◌, ◌-◌, ◌^◌, ◌<◌, ◌≤◌, List, [], ◌∷◌, ◌++◌, length, take, drop, set, codes, decimal, sym, refl, ap, ◌∙◌, append_assoc, add-one, arith, lit<}
 use Rattle.std.proofs.lemmas.List.{length-append, length-take-le, length-drop, drop-drop, set_split, take_at, drop_at}
 use Rattle.std.proofs.lemmas.Fmt.{length-decimal-le}
 use Rattle.texts.specs.declared.faults.Refusal.{Refusal}

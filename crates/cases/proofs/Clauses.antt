@@ -1,5 +1,5 @@
 -- The call clause, by its ways. Assumes nothing.
-use Rattle.std.proofs.Common.{◌≡◌, ℕ, ◌+◌, ◌<◌, ◌≤◌, true, false, cond, ◌&&◌, leb, List, [], ◌∷◌, ◌++◌, length, Some, None, Ok, Err, Result, sym, refl, ap, ◌∙◌, subst, ⊎_elim, arith}
+use Rattle.std.proofs.Common.{◌≡◌, ℕ, ◌+◌, ◌<◌, ◌≤◌, ◌&&◌, leb, List, [], ◌∷◌, ◌++◌, length, Some, None, Err, Result, sym, ap, ◌∙◌, subst, ⊎_elim, arith}
 use Rattle.std.proofs.lemmas.List.{length_push}
 use Rattle.std.proofs.lemmas.Bool.{cases_Bool, cond-true, cond-false, leb-false}
 use Rattle.pltl.specs.Formulas.{Tree, Formula}
@@ -12,8 +12,7 @@ use Rattle.tables.proofs.Laws.{named_beside}
 use Rattle.texts.specs.declared.faults.TextFault.{TextFault}
 use Rattle.cases.specs.declared.faults.CaseFault.{CaseFault}
 use Rattle.cases.specs.declared.faults.CaseFault.TheVariants.{SecondProperty, TooManyClauses}
-use Rattle.cases.specs.declared.faults.CallFault.{CallFault}
-use Rattle.cases.specs.declared.faults.CallFault.TheVariants.{Text, Case}
+use Rattle.cases.specs.declared.faults.CallFault.TheVariants.{Case}
 use Rattle.cases.specs.declared.kind.ClauseKind.{ClauseKind}
 use Rattle.cases.specs.declared.kind.ClauseKind.TheVariants.{Init, Invariant, Transition, Property}
 use Rattle.cases.specs.Drafts.{kind_of, root_formula, form_of, root_number, is_property, objection, clause_of_kind, draft_of_kind, clause_unless, draft_unless, clause, after_clause}

@@ -1,13 +1,13 @@
 -- Rows and root formulas at the first position of a looping run. Assumes nothing.
-use Rattle.std.proofs.Common.{◌≡◌, ℕ, suc, ◌<◌, ◌≤◌, Bool, true, false, ◌⊎◌, List, length, get_or, Some, None, Ok, Err, Option, sym, refl, ap, ◌∙◌, subst, inl, inr, ⊎_elim, arith}
+use Rattle.std.proofs.Common.{◌≡◌, ℕ, suc, ◌<◌, ◌≤◌, Bool, true, false, ◌⊎◌, List, length, get_or, Some, None, Ok, Err, Option, sym, refl, ap, ◌∙◌, subst, inl, inr, arith}
 use mathlib.Core.HLevel.{is_prop→PathP}
 use native.Mathlib.Decide.{dec_lt}
 use native.Mathlib.Bridge.{le_prop}
 use Rattle.pltl.specs.Formulas.{Formula}
-use Rattle.pltl.specs.Runs.{Run, endless, Satisfies}
-use Rattle.pltl.specs.Truth.{State, Holds}
+use Rattle.pltl.specs.Runs.{Run, Satisfies}
+use Rattle.pltl.specs.Truth.{State}
 use Rattle.pltl.proofs.Decisions.{decided}
-use Rattle.std.proofs.lemmas.Bool.{cases_Bool, false≢true, true≢false}
+use Rattle.std.proofs.lemmas.Bool.{false≢true, true≢false}
 use Rattle.tables.specs.Listing.{numbered}
 use Rattle.tables.specs.Rows.{bit, RowOf, RowsOf}
 use Rattle.cases.specs.declared.faults.CaseFault.{CaseFault}

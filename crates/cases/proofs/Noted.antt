@@ -1,6 +1,6 @@
 -- Numbers that are noted once. Assumes nothing.
-use Rattle.std.proofs.Common.{◌≡◌, ℕ, Bool, true, false, not, ◌&&◌, ◌||◌, eqb, List, [], ◌∷◌, ◌++◌, sym, refl, ap, ◌∙◌, subst}
-use Rattle.std.proofs.lemmas.Bool.{or_parts, or_from, and_parts, and_from, not-true, not_from_false, ne_eqb, eqb-false, cases_Bool}
+use Rattle.std.proofs.Common.{◌≡◌, ℕ, true, false, eqb, List, [], ◌∷◌, ◌++◌, sym, refl}
+use Rattle.std.proofs.lemmas.Bool.{or_parts, or_from, and_parts, and_from, not-true, not_from_false, ne_eqb, eqb-false}
 use Rattle.cases.specs.Roots.{contains, none_twice}
 
 eqb_turned : (m n : ℕ) → eqb m n ≡ false → eqb n m ≡ false

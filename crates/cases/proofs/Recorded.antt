@@ -1,5 +1,5 @@
 -- Events of the run recorder. Assumes nothing.
-use Rattle.std.proofs.Common.{◌≡◌, ℕ, false, cond, ltb, length, Some, None, Ok, Err, Option, sym, refl, ap, ◌∙◌, arith}
+use Rattle.std.proofs.Common.{◌≡◌, ℕ, cond, ltb, length, Some, None, Err, Option, sym, ap, ◌∙◌, arith}
 use Rattle.std.proofs.lemmas.Bool.{cond-false, le-ltb}
 use Rattle.cases.specs.declared.faults.CaseFault.{CaseFault}
 use Rattle.cases.specs.declared.faults.CaseFault.TheVariants.{ClosedRun, NoPosition}

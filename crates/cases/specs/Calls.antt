@@ -1,6 +1,6 @@
 -- Calls on a case, what they are answered, and the case afterwards; a record is a list of calls. A reader has to believe
 -- this file. Assumes nothing.
-use Rattle.std.specs.Prelude.{ℕ, List, [], ◌∷◌, ◌++◌, length, Some, None, Ok, Err, Option, Result}
+use Rattle.std.specs.Prelude.{ℕ, List, [], ◌∷◌, ◌++◌, length, Some, Ok, Err, Result}
 use Rattle.texts.specs.declared.faults.TextFault.{TextFault}
 use Rattle.tables.specs.declared.table.entering.Form.TheVariants.{Itself}
 use Rattle.tables.specs.Answers.{answer}

@@ -1,5 +1,5 @@
 -- The calls clause, seal and form: refusal or answer, and what is held afterwards. Assumes nothing.
-use Rattle.std.specs.Prelude.{◌≡◌, ℕ, ◌+◌, Bool, true, false, cond, ◌&&◌, ◌||◌, List, [], length, Some, None, Ok, Err, Option, Result, ◌==◌, nat_le}
+use Rattle.std.specs.Prelude.{◌≡◌, ℕ, ◌+◌, Bool, true, false, cond, ◌&&◌, ◌||◌, List, [], Some, None, Ok, Err, Option, Result, ◌==◌, nat_le}
 use Rattle.pltl.specs.Formulas.{Tree, Formula, opposite, normal}
 use Rattle.pltl.specs.Formulas as formula
 use Rattle.texts.specs.declared.faults.TextFault.{TextFault}

@@ -1,5 +1,5 @@
 -- What is true of every case, whatever calls it took. Assumes nothing.
-use Rattle.std.specs.Prelude.{◌≡◌, ℕ, ◌<◌, Bool, true, List, length, get_or, Some, None, Option, slice_index_or}
+use Rattle.std.specs.Prelude.{◌≡◌, ℕ, ◌<◌, true, length, Some, slice_index_or}
 use Rattle.calculus.specs.Sequents.{NoRun}
 use Rattle.tables.specs.Listing.{numbered}
 use Rattle.tables.specs.Sets.{chosen}

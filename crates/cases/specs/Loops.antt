@@ -8,10 +8,9 @@ use Rattle.tables.specs.Listing.{numbered}
 use Rattle.tables.specs.Rows.{RowOf}
 use Rattle.cases.specs.declared.faults.CaseFault.{CaseFault}
 use Rattle.cases.specs.declared.faults.CaseFault.TheVariants.{NotInTable, NoPosition, FalseRoot}
-use Rattle.cases.specs.declared.recorder.Event.{Event}
 use Rattle.cases.specs.declared.recorder.Event.TheVariants.{Loop}
 use Rattle.cases.specs.Models.{RunModel, CaseModel}
-use Rattle.cases.specs.Recordings.{event_objection, after_event}
+use Rattle.cases.specs.Recordings.{event_objection}
 use Rattle.cases.specs.Roots.{contains, least_failing}
 use Rattle.cases.specs.Satisfied.{satisfied}
 

@@ -1,5 +1,5 @@
 -- The phases of a recorded run. Assumes nothing.
-use Rattle.std.specs.Prelude.{ℕ, Bool, true, Some, None, Option, ◌==◌, nat_lt}
+use Rattle.std.specs.Prelude.{ℕ, Bool, Some, None, Option, ◌==◌, nat_lt}
 use Rattle.cases.specs.declared.recorder.Phase.{Phase}
 use Rattle.cases.specs.declared.recorder.Phase.TheVariants.{Empty, Open, Closed}
 

@@ -1,16 +1,16 @@
 -- What is promised of every record: a sealing followed by any list of calls, taken or refused, under any kit that has
 -- the interface's meaning and law. A reader has to believe this file. Assumes nothing.
-use Rattle.std.specs.Prelude.{◌≡◌, ℕ, zero, suc, ◌+◌, ◌^◌, ◌<◌, ◌≤◌, Bool, true, ◌&&◌, List, [], ◌∷◌, ◌++◌, map, length, Some, None, Ok, Err, Option, Result, nat_le, nat_lt, slice_index, slice_index_or}
+use Rattle.std.specs.Prelude.{◌≡◌, ℕ, ◌+◌, ◌^◌, ◌<◌, ◌≤◌, Bool, true, ◌&&◌, List, [], ◌∷◌, ◌++◌, map, length, Some, Ok, Result, nat_le, nat_lt, slice_index, slice_index_or}
 use Rattle.pltl.specs.Formulas.{Formula}
 use Rattle.pltl.specs.Runs.{Run}
 use Rattle.calculus.specs.Laws.{NoRuns}
-use Rattle.calculus.specs.Sequents.{◌∈◌, SatisfiesAll, NoRun}
+use Rattle.calculus.specs.Sequents.{SatisfiesAll, NoRun}
 use Rattle.tables.specs.Rows.{state_of}
 use Rattle.kits.specs.Steps.{StepModel}
 use Rattle.cases.specs.declared.faults.CallFault.{CallFault}
 use Rattle.cases.specs.Calls.{CallModel, form, step, state, loop, verdict, answers_to, after_calls, recorded_by}
 use Rattle.cases.specs.Drafts.{no_run}
-use Rattle.cases.specs.Models.{RunModel, CaseModel, SteppedModel, KitModel}
+use Rattle.cases.specs.Models.{CaseModel, SteppedModel, KitModel}
 use Rattle.cases.specs.Roots.{contains}
 use Rattle.cases.specs.Steps.{StepCallModel, step_read, without_steps, with_step}
 use Rattle.cases.specs.Verdicts.{root_formulas}

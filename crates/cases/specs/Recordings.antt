@@ -1,13 +1,11 @@
 -- The run recorder: what state, loop and drop are answered, and the run afterwards. Assumes nothing.
-use Rattle.std.specs.Prelude.{ℕ, ◌+◌, ◌/◌, ◌^◌, Bool, true, false, cond, List, [], ◌∷◌, ◌++◌, length, Some, None, Ok, Err, Option, Result, ◌==◌, nat_le, nat_lt}
+use Rattle.std.specs.Prelude.{ℕ, ◌+◌, ◌/◌, ◌^◌, Bool, true, false, cond, [], ◌∷◌, ◌++◌, length, Some, None, Ok, Err, Option, Result, ◌==◌, nat_le, nat_lt}
 use Rattle.std.specs.Int.Count.{count_trailing_zeros}
 use Rattle.tables.specs.Rows.{state_of, recorded}
 use Rattle.cases.specs.declared.faults.CaseFault.{CaseFault}
 use Rattle.cases.specs.declared.faults.CaseFault.TheVariants.{StrayLetter, TooManyPositions, ClosedRun, NoPosition}
 use Rattle.cases.specs.declared.recorder.Event.{Event}
 use Rattle.cases.specs.declared.recorder.Event.TheVariants.{State, Loop, Drop}
-use Rattle.cases.specs.declared.recorder.Phase.{Phase}
-use Rattle.cases.specs.declared.recorder.Phase.TheVariants.{Empty, Open, Closed}
 use Rattle.cases.specs.declared.recorder.Recorder.{Recorder}
 use Rattle.cases.specs.Models.{RunModel}
 use Rattle.cases.specs.Phases.{back_of}

@@ -1,5 +1,5 @@
 -- The verdict, and what it means. A reader has to believe this file. Assumes nothing.
-use Rattle.std.specs.Prelude.{◌≡◌, ℕ, zero, suc, ◌<◌, Bool, true, false, cond, not, ◌&&◌, ◌||◌, List, [], ◌∷◌, map, length, get_or, Some, None, Option}
+use Rattle.std.specs.Prelude.{◌≡◌, ℕ, zero, suc, Bool, true, false, cond, not, ◌&&◌, ◌||◌, List, [], ◌∷◌, map, length, Some}
 use Rattle.pltl.specs.Formulas.{Formula}
 use Rattle.pltl.specs.Runs.{Run}
 use Rattle.calculus.specs.Sequents.{◌∈◌, SatisfiesAll, NoRun}

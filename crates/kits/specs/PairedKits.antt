@@ -1,8 +1,8 @@
 -- Which of two kits a pair's answers come from. Assumes nothing.
-use Rattle.std.specs.Prelude.{◌≡◌, ℕ, ◌+◌, ◌≤◌, Bool, true, false, cond, ◌&&◌, ◌⊎◌, Some, None, Option, nat_le, refl}
+use Rattle.std.specs.Prelude.{◌≡◌, ℕ, ◌+◌, ◌≤◌, Bool, true, false, ◌⊎◌, Some, None, Option, nat_le, refl}
 use Rattle.std.proofs.Common.{sym, ap, subst, ◌∙◌, inl, inr, ⊎_elim}
 use Rattle.std.proofs.lemmas.Bool.{cases_Bool, cond-true, cond-false, and_parts, leb-true, false≢true}
-use Rattle.kits.specs.Pairs.{pair_allows, pair_named, raised, second_rule, lowered}
+use Rattle.kits.specs.Pairs.{pair_allows, pair_named, raised, lowered}
 use Rattle.kits.specs.Steps.{StepModel}
 
 pub allowed_by_one : (first second : StepModel → Bool) (st : StepModel) → pair_allows first second st ≡ true → (first st ≡ true) ⊎ (second (lowered st) ≡ true)

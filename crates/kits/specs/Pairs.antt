@@ -1,6 +1,6 @@
 -- A pair of kits: rules 1 to 99 go to the first, 101 to 999 to the second with 100 taken off. A reader has to believe
 -- this file. Assumes nothing.
-use Rattle.std.specs.Prelude.{ℕ, ◌+◌, ◌-◌, Bool, cond, ◌&&◌, List, Some, None, Option, nat_le}
+use Rattle.std.specs.Prelude.{ℕ, ◌+◌, ◌-◌, Bool, cond, ◌&&◌, Some, None, Option, nat_le}
 use Rattle.kits.specs.Steps.{StepModel}
 
 -- the rule is one of the second kit's

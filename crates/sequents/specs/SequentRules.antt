@@ -2,7 +2,6 @@
 -- Assumes nothing.
 use Rattle.std.specs.Prelude.{ℕ, Bool, cond, ◌&&◌, List, [], ◌∷◌, length, codes, ◌==◌, nat_le, nat_lt}
 use Rattle.pltl.specs.Formulas.{Formula}
-use Rattle.calculus.specs.Rules.{Rule}
 use Rattle.calculus.proofs.DecidedRules.{rule_decided}
 use Rattle.tables.specs.Listing.{numbered}
 use Rattle.tables.specs.Entering.{decided}

@@ -1,10 +1,10 @@
 -- What the steps of numbering answer. Assumes nothing.
-use Rattle.std.specs.Prelude.{◌≡◌, ℕ, ◌<◌, ◌≤◌, true, List, ◌++◌, length, Some, None, Option}
+use Rattle.std.specs.Prelude.{◌≡◌, ◌<◌, ◌≤◌, true, List, ◌++◌, length, Some, None, Option}
 use Rattle.pltl.specs.Formulas.{Formula}
 use Rattle.pltl.specs.declared.Shape.{Shape}
 use Rattle.tables.specs.declared.number.Number.{Number}
 use Rattle.tables.specs.Listing.{numbered, formula_over, parts_below}
-use Rattle.tables.specs.Entering.{place, added, enter, enter_parts}
+use Rattle.tables.specs.Entering.{place}
 
 -- n is a number of f
 abbrev pub Names : List Formula → Number → Formula → Type 0

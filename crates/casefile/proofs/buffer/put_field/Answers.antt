@@ -1,6 +1,5 @@
-use Rattle.std.proofs.Common.{◌≡◌, ℕ, ◌+◌, ◌<◌, ◌≤◌, List, [], ◌∷◌, ◌++◌, length, decimal, sym, ap, ◌∙◌, subst, arith}
+use Rattle.std.proofs.Common.{◌≡◌, ℕ, ◌+◌, ◌<◌, ◌≤◌, List, [], ◌∷◌, ◌++◌, length, decimal, ◌∙◌, subst, arith}
 use Rattle.std.proofs.lemmas.List.{length-append, append_assoc}
-use Rattle.casefile.specs.Buffers.{overwritten}
 use Rattle.casefile.specs.Fields.{number_field}
 use Rattle.casefile.proofs.Writing.{Wrote, wrote_length, wrote_on}
 use Rattle.casefile.proofs.buffer.put_field.Goals as goal

@@ -1,4 +1,4 @@
-use Rattle.std.proofs.Common.{◌≡◌, ℕ, ◌+◌, ◌*◌, ◌≤◌, List, sym, ap, subst, arith}
+use Rattle.std.proofs.Common.{◌≡◌, ℕ, ◌+◌, ◌*◌, ◌≤◌, List, sym, subst, arith}
 use Rattle.casefile.specs.Sheets.{Kept}
 use Rattle.casefile.proofs.Writing.{kept_on}
 use Rattle.casefile.proofs.sheet.put_evidence.Goals as goal

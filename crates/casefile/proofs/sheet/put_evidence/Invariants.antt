@@ -1,4 +1,4 @@
-use Rattle.std.proofs.Common.{◌+◌, ◌*◌, ◌≤◌, length}
+use Rattle.std.proofs.Common.{◌+◌, ◌*◌, ◌≤◌}
 use Rattle.casefile.specs.Sheets.{Kept}
 use Rattle.casefile.proofs.sheet.put_evidence.Given as goal
 

@@ -1,9 +1,9 @@
-use Rattle.std.proofs.Common.{◌≡◌, ℕ, ◌<◌, ◌≤◌, length, Some, None, vec_items, sym, refl, ap, ◌∙◌, subst, arith}
+use Rattle.std.proofs.Common.{◌≡◌, ◌<◌, length, Some, None, vec_items, ap, ◌∙◌, subst, arith}
 use Rattle.std.proofs.lemmas.List.{length-map}
 use Rattle.std.proofs.lemmas.Result.{err_from_is_err_and}
 use Rattle.tables.specs.Sets.{member}
 use Rattle.cases.specs.declared.faults.CaseFault.TheVariants.{NotInTable}
-use Rattle.cases.specs.Steps.{first_unfit, first_missing, at_index, premises_objection}
+use Rattle.cases.specs.Steps.{first_unfit, first_missing, at_index}
 use Rattle.cases.specs.Views.{stepped_model, step_call_model}
 use Rattle.cases.proofs.HandedSteps.{steps_full, conclusion_unfit, premises_next, premises_many, premises_searched}
 use Rattle.cases.proofs.draft.Case.admitted_step.Goals as goal

@@ -1,6 +1,5 @@
-use Rattle.std.proofs.Common.{◌≡◌, sym, refl, ◌∙◌, subst}
+use Rattle.std.proofs.Common.{sym, refl, subst}
 use Rattle.cases.specs.Good.{Good}
-use Rattle.cases.specs.Recordings.{run_model}
 use Rattle.cases.specs.Steps.{with_case}
 use Rattle.cases.specs.Views.{case_model, stepped_model}
 use Rattle.cases.proofs.Goods.{good_from, good_loop}

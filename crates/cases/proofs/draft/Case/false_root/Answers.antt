@@ -1,8 +1,7 @@
-use Rattle.std.proofs.Common.{◌≡◌, vec_items, ◌∙◌, subst}
+use Rattle.std.proofs.Common.{vec_items, ◌∙◌, subst}
 use Rattle.tables.specs.Listing.{formulas}
 use Rattle.tables.specs.Rows.{recorded, RowsOf}
 use Rattle.cases.specs.Views.{case_model}
-use Rattle.cases.proofs.Goods.{good_from}
 use Rattle.cases.proofs.Looped.{false_root_is}
 use Rattle.cases.proofs.draft.Case.false_root.Goals as goal
 

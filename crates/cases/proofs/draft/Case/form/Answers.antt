@@ -2,7 +2,7 @@ use Rattle.std.proofs.Common.{vec_items}
 use Rattle.tables.proofs.Growth.{length_grown}
 use Rattle.cases.specs.Roots.{plain}
 use Rattle.cases.proofs.Inside.{all_below_more}
-use Rattle.cases.specs.Views.{case_model, stepped_model}
+use Rattle.cases.specs.Views.{stepped_model}
 use Rattle.cases.proofs.Goods.{good_from, good_grown}
 use Rattle.cases.proofs.draft.Case.form.Goals as goal
 

@@ -1,8 +1,7 @@
-use Rattle.std.proofs.Common.{◌≡◌, ℕ, ◌+◌, ◌<◌, ◌≤◌, Bool, true, false, ◌||◌, [], map, length, get_or, drop, vec_items, Decides, sym, refl, ap, ◌∙◌, subst, arith}
+use Rattle.std.proofs.Common.{◌≡◌, ℕ, ◌+◌, ◌<◌, ◌≤◌, true, ◌||◌, [], map, length, get_or, drop, vec_items, Decides, sym, ap, ◌∙◌, subst, arith}
 use Rattle.std.proofs.lemmas.Bool.{or_left}
 use Rattle.std.proofs.lemmas.List.{at_drop_more, at_drop_all, get_or-map, length-map}
 use Rattle.tables.specs.declared.sequent.Sequent.{Sequent}
-use Rattle.tables.specs.Listing.{formulas}
 use Rattle.tables.specs.Sets.{member}
 use Rattle.tables.proofs.Listed.{length_formulas}
 use Rattle.cases.specs.Steps.{nothing}

@@ -1,8 +1,7 @@
-use Rattle.std.proofs.Common.{◌≡◌, length, take, Some, None, vec_items, vec_len, sym, refl, ap, ◌∙◌, subst, arith}
+use Rattle.std.proofs.Common.{◌≡◌, length, take, None, vec_items, vec_len, refl, ap, ◌∙◌, subst, arith}
 use Rattle.std.proofs.lemmas.List.{length-map}
-use Rattle.std.proofs.lemmas.Result.{err_from_is_err_and}
 use Rattle.tables.specs.Sets.{member}
-use Rattle.cases.specs.Steps.{premises_objection, case_then_kit, kit_objection}
+use Rattle.cases.specs.Steps.{premises_objection, case_then_kit}
 use Rattle.cases.specs.Views.{stepped_model, kit_model, step_call_model}
 use Rattle.cases.proofs.HandedSteps.{premises_fit, objected, objected_by_kit, read_by_sets}
 use Rattle.cases.proofs.draft.Case.judged.Goals as goal

@@ -1,4 +1,4 @@
-use Rattle.std.proofs.Common.{◌≡◌, ◌<◌, length, get_or, vec_items, sym, refl, ap, ◌∙◌, subst, arith}
+use Rattle.std.proofs.Common.{◌<◌, length, vec_items, sym, ap, subst, arith}
 use Rattle.tables.specs.Listing.{formulas, numbered}
 use Rattle.tables.specs.Rows.{recorded, RowOf, RowsOf}
 use Rattle.cases.proofs.draft.Case.row.Goals as goal

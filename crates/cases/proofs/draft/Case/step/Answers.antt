@@ -1,12 +1,11 @@
-use Rattle.std.proofs.Common.{◌≡◌, ℕ, ◌+◌, ◌<◌, ◌≤◌, List, [], ◌∷◌, ◌++◌, map, length, Some, None, Ok, Err, vec_items, vec_len, vec_capacity, sym, refl, ap, ◌∙◌, subst, ap₂, arith}
-use Rattle.std.proofs.lemmas.List.{length-map, map_push}
+use Rattle.std.proofs.Common.{◌≡◌, ◌+◌, length, Ok, Err, vec_items, sym, refl, ap, ◌∙◌, subst, arith}
+use Rattle.std.proofs.lemmas.List.{length-map}
 use Rattle.std.proofs.lemmas.Result.{err_from_is_err_and}
 use Rattle.tables.specs.Sets.{member}
 use Rattle.cases.specs.Good.{Good}
-use Rattle.cases.specs.Models.{CaseModel}
 use Rattle.cases.specs.Promise.{KitLaw}
 use Rattle.cases.specs.Roots.{contains}
-use Rattle.cases.specs.Steps.{step_objection, number_unless, changed_unless, with_step}
+use Rattle.cases.specs.Steps.{number_unless, changed_unless, with_step}
 use Rattle.cases.specs.Views.{stepped_model, kit_model, step_call_model}
 use Rattle.cases.proofs.Goods.{good_from, good_step}
 use Rattle.cases.proofs.Admitted.{step_admitted}

@@ -1,4 +1,4 @@
-use Rattle.std.proofs.Common.{◌≡◌, ℕ, cond, sym, ◌∙◌, subst}
+use Rattle.std.proofs.Common.{◌≡◌, cond, sym, ◌∙◌, subst}
 use Rattle.std.proofs.lemmas.Bool.{cond-true, cond-false}
 use Rattle.cases.specs.Recordings.{is_closed}
 use Rattle.cases.specs.Verdicts.{some_of, only_roots, verdict, Means}

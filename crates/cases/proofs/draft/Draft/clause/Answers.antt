@@ -1,4 +1,4 @@
-use Rattle.std.proofs.Common.{◌≡◌, ◌+◌, ◌%◌, ◌<◌, ◌≤◌, true, ◌||◌, length, Ok, Err, vec_items, vec_len, sym, refl, ap, ◌∙◌, subst, arith}
+use Rattle.std.proofs.Common.{◌≡◌, ◌+◌, ◌%◌, ◌≤◌, true, ◌||◌, length, Ok, Err, vec_items, vec_len, sym, refl, ap, ◌∙◌, subst, arith}
 use Rattle.std.proofs.lemmas.List.{length-map}
 use Rattle.std.proofs.lemmas.Result.{err_from_is_err_and}
 use Rattle.tables.specs.Answers.{answer, after, by_number, entry}
@@ -6,8 +6,6 @@ use Rattle.tables.specs.Listing.{formulas}
 use Rattle.tables.specs.Steps.{Names}
 use Rattle.tables.proofs.Answered.{after_refused}
 use Rattle.tables.proofs.Listed.{length_formulas}
-use Rattle.cases.specs.Drafts.{form_of, root_number, is_property}
-use Rattle.cases.specs.Models.{DraftModel}
 use Rattle.cases.specs.Results.{call_number}
 use Rattle.tables.proofs.Growth.{length_grown}
 use Rattle.cases.specs.Roots.{noted, plain, all_below}

@@ -1,4 +1,4 @@
-use Rattle.std.proofs.Common.{◌∙◌, arith}
+use Rattle.std.proofs.Common.{arith}
 use Rattle.std.proofs.lemmas.Bool.{lt-ltb}
 use Rattle.tables.proofs.RecordedStates.{length_recorded}
 use Rattle.cases.proofs.recorder.Recorder.close.Goals as goal

@@ -1,5 +1,4 @@
-use Rattle.std.proofs.Common.{◌≡◌, List, vec_items, sym, ap, ◌∙◌, subst, arith}
-use Rattle.pltl.specs.Formulas.{Formula}
+use Rattle.std.proofs.Common.{vec_items, ap, ◌∙◌, arith}
 use Rattle.texts.specs.Normals.{formula_at}
 use Rattle.tables.specs.Entering.{enter}
 use Rattle.tables.specs.Listing.{formulas}

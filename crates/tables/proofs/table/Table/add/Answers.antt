@@ -1,9 +1,8 @@
-use Rattle.std.proofs.Common.{◌≡◌, ℕ, ◌%◌, ◌≤◌, true, ltb, List, [], ◌∷◌, ◌++◌, length, vec_items, vec_len, sym, refl, ap, ◌∙◌, subst, append_assoc, arith, rules}
+use Rattle.std.proofs.Common.{◌≡◌, ◌%◌, ◌≤◌, true, ltb, [], ◌∷◌, ◌++◌, length, vec_items, sym, ap, ◌∙◌, subst, append_assoc, arith, rules}
 use Rattle.pltl.specs.Formulas.{opposite}
-use Rattle.tables.specs.Entering.{place}
 use Rattle.tables.specs.Listing.{numbered, formula_over, formulas, parts_below, PartsFirst, Lawful}
-use Rattle.tables.specs.Steps.{Grown, Names}
-use Rattle.tables.proofs.Added.{added_old, added_new_length, formulas_pushed, order_pushed, pushed_added, lawful_pushed, number_pushed}
+use Rattle.tables.specs.Steps.{Names}
+use Rattle.tables.proofs.Added.{added_old, added_new_length, order_pushed, pushed_added, lawful_pushed, number_pushed}
 use Rattle.tables.proofs.Growth.{grown_none}
 use Rattle.tables.proofs.Laws.{lawful_from}
 use Rattle.tables.proofs.Listed.{length_formulas, duals_named, duals_below}

@@ -1,4 +1,4 @@
-use Rattle.std.proofs.Common.{◌≡◌, ℕ, zero, suc, ◌<◌, List, [], ◌∷◌, ◌++◌, length, vec_items, sym, refl, ap, ◌∙◌, subst, arith, rules}
+use Rattle.std.proofs.Common.{◌≡◌, zero, suc, List, [], ◌∷◌, ◌++◌, vec_items, sym, refl, ap, ◌∙◌, subst, arith, rules}
 use Rattle.pltl.specs.Formulas as formula
 use Rattle.pltl.specs.declared.Shape.{Shape}
 use Rattle.pltl.specs.declared.Shape.TheVariants.{True, False}

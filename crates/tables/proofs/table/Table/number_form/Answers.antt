@@ -1,4 +1,4 @@
-use Rattle.std.proofs.Common.{◌≡◌, ◌<◌, List, length, vec_items, sym, refl, ap, ◌∙◌, subst, arith}
+use Rattle.std.proofs.Common.{◌≡◌, ◌<◌, length, vec_items, sym, ap, ◌∙◌, subst, arith}
 use Rattle.pltl.specs.Formulas.{normal}
 use Rattle.pltl.specs.Formulas as formula
 use Rattle.texts.specs.Normals.{formula_at}
