@@ -8,6 +8,7 @@ use anyhow::anyhow;
 use casefile::{LINE_ROOM, LONGEST_FILE, MOST_LINES, sorvigzna_sheet};
 use std::io;
 use std::io::{Read, Write};
+use std::process::ExitCode;
 
 // Reads up to the end of the input, or until the buffer is full: how many bytes were read.
 fn read_all<R: Read>(input: &mut R, buffer: &mut [u8]) -> io::Result<usize>
@@ -27,7 +28,8 @@ fn read_all<R: Read>(input: &mut R, buffer: &mut [u8]) -> io::Result<usize>
     Ok(len)
 }
 
-fn main(rt: HostRuntime) -> anyhow::Result<()> {
+// Reads the file and writes its sheet, unless there is none.
+fn serve(rt: &HostRuntime) -> anyhow::Result<()> {
     let heap = rt.alloc();
     // One byte more than a file may have, so that a longer one is seen to be too long.
     let mut file = vec![in heap; 0u8; LONGEST_FILE + 1]?;
@@ -40,4 +42,11 @@ fn main(rt: HostRuntime) -> anyhow::Result<()> {
     rt.stdout()
         .write_all(&sheet.as_slice()[0..answer as usize])?;
     Ok(())
+}
+
+fn main(rt: HostRuntime) -> ExitCode {
+    match serve(&rt) {
+        Ok(()) => ExitCode::SUCCESS,
+        Err(_) => ExitCode::FAILURE,
+    }
 }
