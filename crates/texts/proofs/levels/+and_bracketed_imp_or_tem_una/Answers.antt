@@ -23,19 +23,19 @@ and-returns-in_err-right t c =
     let p = err_from_is_err_and c.from_residual-in_err-right.result c.from_residual-in_err-right.ensures.1 in
     rw (p.1, p.2) (and_fails c.in_ok-left.ensures (here c.args.text.now c.in_ok-left.left.next tt c.in-And.ensures) c.in_err-right.ensures)
 
-pub and-made-requires : goal.and-made-requires
-and-made-requires t c =
-    let l = c.in_ok-left.ensures in
-    let r = c.in_ok-right.ensures in
-    let n = c.and.new.out.nodes.ok.0 in
-    record { room = omega (arith, c.args.out.now.nodes.ok.0); parts = parts_before _ l r n }
-
 pub and-returns : goal.and-returns
 and-returns t c =
     let l = c.in_ok-left.ensures in
     let h = here c.args.text.now c.in_ok-left.left.next tt c.in-And.ensures in
     joined (node.And c.in_ok-left.left.node c.in_ok-right.right.node) and (λ a b v w. and_text) (λ ts. refl)
     l (byte 38 h (stands h)) c.in_ok-right.ensures c.and.new.out.nodes.ok.0 c.made.ensures.items c.made.ensures.value
+
+pub and-made-requires : goal.and-made-requires
+and-made-requires t c =
+    let l = c.in_ok-left.ensures in
+    let r = c.in_ok-right.ensures in
+    let n = c.and.new.out.nodes.ok.0 in
+    record { room = omega (arith, c.args.out.now.nodes.ok.0); parts = parts_before _ l r n }
 
 pub or-returns-in_default : goal.or-returns-in_default
 or-returns-in_default t c =
@@ -53,19 +53,19 @@ or-returns-in_err-right t c =
     let p = err_from_is_err_and c.from_residual-in_err-right.result c.from_residual-in_err-right.ensures.1 in
     rw (p.1, p.2) (or_fails c.in_ok-left.ensures (here c.args.text.now c.in_ok-left.left.next tt c.in-Or.ensures) c.in_err-right.ensures)
 
-pub or-made-requires : goal.or-made-requires
-or-made-requires t c =
-    let l = c.in_ok-left.ensures in
-    let r = c.in_ok-right.ensures in
-    let n = c.or.new.out.nodes.ok.0 in
-    record { room = omega (arith, c.args.out.now.nodes.ok.0); parts = parts_before _ l r n }
-
 pub or-returns : goal.or-returns
 or-returns t c =
     let l = c.in_ok-left.ensures in
     let h = here c.args.text.now c.in_ok-left.left.next tt c.in-Or.ensures in
     joined (node.Or c.in_ok-left.left.node c.in_ok-right.right.node) or (λ a b v w. or_text) (λ ts. refl)
     l (byte 124 h (stands h)) c.in_ok-right.ensures c.or.new.out.nodes.ok.0 c.made.ensures.items c.made.ensures.value
+
+pub or-made-requires : goal.or-made-requires
+or-made-requires t c =
+    let l = c.in_ok-left.ensures in
+    let r = c.in_ok-right.ensures in
+    let n = c.or.new.out.nodes.ok.0 in
+    record { room = omega (arith, c.args.out.now.nodes.ok.0); parts = parts_before _ l r n }
 
 pub imp-returns-in_default : goal.imp-returns-in_default
 imp-returns-in_default t c =
@@ -84,13 +84,6 @@ imp-returns-in_err-right t c =
     let p = err_from_is_err_and c.from_residual-in_err-right.result c.from_residual-in_err-right.ensures.1 in
     rw (p.1, p.2) (implies_fails c.in_ok-left.ensures (here c.args.text.now c.in_ok-left.left.next tt c.in-Minus.ensures) (here c.args.text.now (c.in_ok-left.left.next + 1) tt c.in-Greater.ensures) c.in_err-right.ensures)
 
-pub imp-made-requires : goal.imp-made-requires
-imp-made-requires t c =
-    let l = c.in_ok-left.ensures in
-    let r = c.in_ok-right.ensures in
-    let n = c.imp.new.out.nodes.ok.0 in
-    record { room = omega (arith, c.args.out.now.nodes.ok.0); parts = parts_before _ l r n }
-
 pub imp-returns : goal.imp-returns
 imp-returns t c =
     let l = c.in_ok-left.ensures in
@@ -98,6 +91,13 @@ imp-returns t c =
     let g = here c.args.text.now (c.in_ok-left.left.next + 1) tt c.in-Greater.ensures in
     joined (node.Implies c.in_ok-left.left.node c.in_ok-right.right.node) implies (λ a b v w. implies_text) (λ ts. refl)
     l (two_bytes 45 62 h g (stands h) (stands g)) c.in_ok-right.ensures c.imp.new.out.nodes.ok.0 c.made.ensures.items c.made.ensures.value
+
+pub imp-made-requires : goal.imp-made-requires
+imp-made-requires t c =
+    let l = c.in_ok-left.ensures in
+    let r = c.in_ok-right.ensures in
+    let n = c.imp.new.out.nodes.ok.0 in
+    record { room = omega (arith, c.args.out.now.nodes.ok.0); parts = parts_before _ l r n }
 
 pub tem-returns-in_default : goal.tem-returns-in_default
 tem-returns-in_default t c =
@@ -115,19 +115,19 @@ tem-returns-in_err-right-in-Until t c =
     let p = err_from_is_err_and c.from_residual-in_err-right-in-Until.result c.from_residual-in_err-right-in-Until.ensures.1 in
     rw (p.1, p.2) (temporal_fails until (λ i d c k v fs. refl) c.in_ok-left.ensures (here c.args.text.now c.in_ok-left.left.next tt c.in-Until.ensures) c.in_err-right-in-Until.ensures)
 
-pub tem-made-requires : goal.tem-made-requires
-tem-made-requires t c =
-    let l = c.in_ok-left.ensures in
-    let r = c.in_ok-right-in-Until.ensures in
-    let n = c.tem.new.out.nodes.ok.0 in
-    record { room = omega (arith, c.args.out.now.nodes.ok.0); parts = parts_before _ l r n }
-
 pub tem-returns-in_ok-right-in-Until : goal.tem-returns-in_ok-right-in-Until
 tem-returns-in_ok-right-in-Until t c =
     let l = c.in_ok-left.ensures in
     let h = here c.args.text.now c.in_ok-left.left.next tt c.in-Until.ensures in
     joined (node.Until c.in_ok-left.left.node c.in_ok-right-in-Until.right.node) until (λ a b v w. until_text) (λ ts. refl)
     l (byte 85 h (stands h)) c.in_ok-right-in-Until.ensures c.tem.new.out.nodes.ok.0 c.made.ensures.items c.made.ensures.value
+
+pub tem-made-requires : goal.tem-made-requires
+tem-made-requires t c =
+    let l = c.in_ok-left.ensures in
+    let r = c.in_ok-right-in-Until.ensures in
+    let n = c.tem.new.out.nodes.ok.0 in
+    record { room = omega (arith, c.args.out.now.nodes.ok.0); parts = parts_before _ l r n }
 
 pub tem-tem-requires-in-Release : goal.tem-tem-requires-in-Release
 tem-tem-requires-in-Release t c =
@@ -140,19 +140,19 @@ tem-returns-in_err-right-in-Release t c =
     let p = err_from_is_err_and c.from_residual-in_err-right-in-Release.result c.from_residual-in_err-right-in-Release.ensures.1 in
     rw (p.1, p.2) (temporal_fails release (λ i d c k v fs. refl) c.in_ok-left.ensures (here c.args.text.now c.in_ok-left.left.next tt c.in-Release.ensures) c.in_err-right-in-Release.ensures)
 
-pub tem-made-requires-in-Release : goal.tem-made-requires-in-Release
-tem-made-requires-in-Release t c =
-    let l = c.in_ok-left.ensures in
-    let r = c.in_ok-right-in-Release.ensures in
-    let n = c.tem-in-Release.new.out.nodes.ok.0 in
-    record { room = omega (arith, c.args.out.now.nodes.ok.0); parts = parts_before _ l r n }
-
 pub tem-returns-in_ok-right-in-Release : goal.tem-returns-in_ok-right-in-Release
 tem-returns-in_ok-right-in-Release t c =
     let l = c.in_ok-left.ensures in
     let h = here c.args.text.now c.in_ok-left.left.next tt c.in-Release.ensures in
     joined (node.Release c.in_ok-left.left.node c.in_ok-right-in-Release.right.node) release (λ a b v w. release_text) (λ ts. refl)
     l (byte 82 h (stands h)) c.in_ok-right-in-Release.ensures c.tem-in-Release.new.out.nodes.ok.0 c.made-in-Release.ensures.items c.made-in-Release.ensures.value
+
+pub tem-made-requires-in-Release : goal.tem-made-requires-in-Release
+tem-made-requires-in-Release t c =
+    let l = c.in_ok-left.ensures in
+    let r = c.in_ok-right-in-Release.ensures in
+    let n = c.tem-in-Release.new.out.nodes.ok.0 in
+    record { room = omega (arith, c.args.out.now.nodes.ok.0); parts = parts_before _ l r n }
 
 pub imp-returns-in_default-sign_at : goal.imp-returns-in_default-sign_at
 imp-returns-in_default-sign_at t c =

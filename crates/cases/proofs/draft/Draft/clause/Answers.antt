@@ -31,20 +31,6 @@ returns-in_err-entered g c =
     let a = clause_admitted d c.args.kind w _ told.0 told.1 (by_number (Err c.in_err-entered.field-0.0)) read in
     record { value = ap call_number p.1 ∙ ap Err p.2 ∙ a.0; after = (λ i. record { formulas = (e.after ∙ after_refused d.formulas c.form.result w _ e.value) i; roots = d.roots; clauses = d.clauses; property = d.property }) ∙ a.1; root = rw p.1 tt; kit = refl }
 
-pub invariant_of-self-2 : goal.invariant_of-self-2
-invariant_of-self-2 g c =
-    let told = c.in_ok-kind.ensures in
-    let t = c.args.self.now in
-    let old = t.roots.numbers in
-    let new = c.note.new.self.numbers in
-    let long : vec_len new ≤ vec_len old + 1 = omega (arith, new.ok.0, old.ok.0, length-map (vec_items new) (λ n. n.0), length-map (vec_items old) (λ n. n.0), ap length c.note.ensures, length_noted (plain (vec_items old)) c.root-root.result.0) in
-    let e = c.in_ok-entered.ensures in
-    let ss = vec_items c.enter.new.self.shapes in
-    let fs = formulas ss in
-    let even : length fs % 2 ≡ 0 = subst (λ n. n % 2 ≡ 0) (c.enter.new.self.shapes.ok.0 ∙ sym (length_formulas ss)) c.enter.new.self.even in
-    let named = root_named fs c.in_ok-kind.kind e.names.0 c.in_ok-entered.entered c.root-root.result e.lawful even c.root-root.ensures (subst (λ f. Names fs c.in_ok-entered.entered (entry f e.names.0)) c.form.ensures e.names.2) in
-    record { room = t.room; none = t.none; few = omega (arith, admitted_room (draft_model t) c.in_ok-kind.kind told.1); rooted = omega (arith, t.rooted); inside = subst (λ l. all_below (length fs) l ≡ true) (sym c.note.ensures) (all_below_noted (plain (vec_items old)) (length fs) c.root-root.result.0 (all_below_more (plain (vec_items old)) _ (length fs) (length_grown e.grown) t.inside) named.0) }
-
 pub returns : goal.returns
 returns g c =
     let d = draft_model c.args.self.now in
@@ -67,3 +53,17 @@ returns g c =
       root = (k, named.0, told.0, named.1, root_named (formulas ss) k named.0 m c.root-root.result e.lawful even c.root-root.ensures (subst (λ f. Names (formulas ss) m (entry f named.0)) c.form.ensures named.2));
       kit = refl;
     }
+
+pub invariant_of-self-2 : goal.invariant_of-self-2
+invariant_of-self-2 g c =
+    let told = c.in_ok-kind.ensures in
+    let t = c.args.self.now in
+    let old = t.roots.numbers in
+    let new = c.note.new.self.numbers in
+    let long : vec_len new ≤ vec_len old + 1 = omega (arith, new.ok.0, old.ok.0, length-map (vec_items new) (λ n. n.0), length-map (vec_items old) (λ n. n.0), ap length c.note.ensures, length_noted (plain (vec_items old)) c.root-root.result.0) in
+    let e = c.in_ok-entered.ensures in
+    let ss = vec_items c.enter.new.self.shapes in
+    let fs = formulas ss in
+    let even : length fs % 2 ≡ 0 = subst (λ n. n % 2 ≡ 0) (c.enter.new.self.shapes.ok.0 ∙ sym (length_formulas ss)) c.enter.new.self.even in
+    let named = root_named fs c.in_ok-kind.kind e.names.0 c.in_ok-entered.entered c.root-root.result e.lawful even c.root-root.ensures (subst (λ f. Names fs c.in_ok-entered.entered (entry f e.names.0)) c.form.ensures e.names.2) in
+    record { room = t.room; none = t.none; few = omega (arith, admitted_room (draft_model t) c.in_ok-kind.kind told.1); rooted = omega (arith, t.rooted); inside = subst (λ l. all_below (length fs) l ≡ true) (sym c.note.ensures) (all_below_noted (plain (vec_items old)) (length fs) c.root-root.result.0 (all_below_more (plain (vec_items old)) _ (length fs) (length_grown e.grown) t.inside) named.0) }

@@ -7,11 +7,6 @@ returns-then-at-ge-MOST_POSITIONS c =
     let s = c.args.self.now in
     record { value = omega (arith, length_recorded s.letters s.len, s.few); after = refl }
 
-pub invariant_of-self : goal.invariant_of-self
-invariant_of-self c =
-    let s = c.args.self.now in
-    record { few = omega arith; clean = marked_clean s.letters _ c.args.letters s.len s.clean c.mark-words.ensures }
-
 pub returns : goal.returns
 returns c =
     let s = c.args.self.now in
@@ -19,3 +14,8 @@ returns c =
       value = (sym (length_recorded s.letters s.len), omega arith);
       after = recorded_marked s.letters _ c.args.letters s.len s.clean c.mark-words.ensures;
     }
+
+pub invariant_of-self : goal.invariant_of-self
+invariant_of-self c =
+    let s = c.args.self.now in
+    record { few = omega arith; clean = marked_clean s.letters _ c.args.letters s.len s.clean c.mark-words.ensures }

@@ -18,6 +18,15 @@ number-returns t c =
     let h = c.in_ok-shape.ensures in
     record { value = reaches_entered _ _ _ _ _ _ h.value.0 h.value.1.0 c.add.ensures.value; grown = grown_on h.grown c.add.ensures.grown }
 
+pub number_both-returns : goal.number_both-returns
+number_both-returns t c =
+    let l = c.in_ok-left.ensures in
+    let r = c.in_ok-right.ensures in
+    record {
+      value = (r.value.0 ∙ ap (λ gs. enter gs (formula_at (vec_items c.args.syntax.now.nodes) c.args.right)) l.value.0, (names_grown _ _ (formulas_grown r.grown) l.value.1, r.value.1));
+      grown = grown_on l.grown r.grown;
+    }
+
 pub number_both-returns-in_err-left : goal.number_both-returns-in_err-left
 number_both-returns-in_err-left t c =
     let h = c.in_err-left.ensures in
@@ -30,12 +39,3 @@ number_both-returns-in_err-right t c =
     let l = c.in_ok-left.ensures in
     let h = c.in_err-right.ensures in
     record { value = rw c.from_residual-in_err-right.ensures (rw l.value.0 at h.value); grown = grown_on l.grown h.grown }
-
-pub number_both-returns : goal.number_both-returns
-number_both-returns t c =
-    let l = c.in_ok-left.ensures in
-    let r = c.in_ok-right.ensures in
-    record {
-      value = (r.value.0 ∙ ap (λ gs. enter gs (formula_at (vec_items c.args.syntax.now.nodes) c.args.right)) l.value.0, (names_grown _ _ (formulas_grown r.grown) l.value.1, r.value.1));
-      grown = grown_on l.grown r.grown;
-    }

@@ -37,14 +37,14 @@ returns-in_err-whole c =
     ∙ sym (sized_reading c.args.text.now z ∙ c.in_err-whole.ensures nothing []) in
     record { value = e; reads = read_by c.args.text.now _ e }
 
-pub returns-then-whole-text : goal.returns-then-whole-text
-returns-then-whole-text c =
-    let z = sized c.args.text.now (sym c.if-is_empty.ensures) c.if-text-gt-LONGEST.false in
-    let e = sym (sized_reading c.args.text.now z ∙ more_follows c.in_ok-whole.ensures c.if-whole-text.true) in
-    record { value = e; reads = read_by c.args.text.now _ e }
-
 pub returns : goal.returns
 returns c =
     let z = sized c.args.text.now (sym c.if-is_empty.ensures) c.if-text-gt-LONGEST.false in
     let s = whole_text c.in_ok-whole.ensures c.if-whole-text.false in
     record { value = sym (sized_reading c.args.text.now z ∙ scan_spelled s); reads = (z, s) }
+
+pub returns-then-whole-text : goal.returns-then-whole-text
+returns-then-whole-text c =
+    let z = sized c.args.text.now (sym c.if-is_empty.ensures) c.if-text-gt-LONGEST.false in
+    let e = sym (sized_reading c.args.text.now z ∙ more_follows c.in_ok-whole.ensures c.if-whole-text.true) in
+    record { value = e; reads = read_by c.args.text.now _ e }
