@@ -84,6 +84,13 @@ imp-returns-in_err-right t c =
     let p = err_from_is_err_and c.from_residual-in_err-right.result c.from_residual-in_err-right.ensures.1 in
     rw (p.1, p.2) (implies_fails c.in_ok-left.ensures (here c.args.text.now c.in_ok-left.left.next tt c.in-Minus.ensures) (here c.args.text.now (c.in_ok-left.left.next + 1) tt c.in-Greater.ensures) c.in_err-right.ensures)
 
+pub imp-made-requires-clause-room : goal.imp-made-requires-clause-room
+imp-made-requires-clause-room t c =
+    let l = c.in_ok-left.ensures in
+    let r = c.in_ok-right.ensures in
+    let n = c.imp.new.out.nodes.ok.0 in
+    omega (arith, c.args.out.now.nodes.ok.0)
+
 pub imp-returns : goal.imp-returns
 imp-returns t c =
     let l = c.in_ok-left.ensures in
@@ -92,12 +99,8 @@ imp-returns t c =
     joined (node.Implies c.in_ok-left.left.node c.in_ok-right.right.node) implies (λ a b v w. implies_text) (λ ts. refl)
     l (two_bytes 45 62 h g (stands h) (stands g)) c.in_ok-right.ensures c.imp.new.out.nodes.ok.0 c.made.ensures.items c.made.ensures.value
 
-pub imp-made-requires : goal.imp-made-requires
-imp-made-requires t c =
-    let l = c.in_ok-left.ensures in
-    let r = c.in_ok-right.ensures in
-    let n = c.imp.new.out.nodes.ok.0 in
-    record { room = omega (arith, c.args.out.now.nodes.ok.0); parts = parts_before _ l r n }
+pub imp-made-requires-clause-parts : goal.imp-made-requires-clause-parts
+imp-made-requires-clause-parts t c = parts_before _ c.in_ok-left.ensures c.in_ok-right.ensures c.imp.new.out.nodes.ok.0
 
 pub tem-returns-in_default : goal.tem-returns-in_default
 tem-returns-in_default t c =
