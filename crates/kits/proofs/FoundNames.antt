@@ -1,5 +1,5 @@
 -- Names that are found in a list of names. Assumes nothing.
-use Rattle.std.proofs.Common.{◌≡◌, ℕ, Bool, true, false, not, ◌&&◌, eqb, List, [], ◌∷◌, ◌++◌, Some, None, sym, refl, ◌∙◌, subst, ap₂, ⊎_elim, arith}
+use Rattle.std.proofs.Common.{◌≡◌, ℕ, Bool, true, false, not, ◌&&◌, eqb, List, [], ◌∷◌, Some, None, sym, refl, ◌∙◌, subst, ap₂, ⊎_elim, arith}
 use Rattle.std.proofs.lemmas.Bool.{false≢true, eqb-true, eqb-false, and_parts, cases_Bool, cond-true, cond-false, not-true}
 use Rattle.kits.specs.Names.{Name, same_word, lookup}
 
@@ -21,27 +21,6 @@ numbers_differ (n ∷ ns) = all_numbers (λ k. not (eqb k n.number)) ns && numbe
 
 none_some : (n : ℕ) → None ≡ Some n → ⊥
 none_some n e = let z : ◌≡◌ {A = ℕ} 0 1 = cc in omega arith
-
--- the first names are asked first
-pub found_first : (ms ns : List Name) (w : List ℕ) (k : ℕ) → lookup ms w ≡ Some k → lookup (ms ++ ns) w ≡ Some k
-found_first [] ns w k e = absurd (none_some k e)
-found_first (m ∷ ms) ns w k e =
-    ⊎_elim
-    (λ s. cond-true (same_word m.word w) (Some m.number) (lookup (ms ++ ns) w) s ∙ sym (cond-true (same_word m.word w) (Some m.number) (lookup ms w) s) ∙ e)
-    (λ s.
-    cond-false (same_word m.word w) (Some m.number) (lookup (ms ++ ns) w) s
-    ∙ found_first ms ns w k (sym (cond-false (same_word m.word w) (Some m.number) (lookup ms w) s) ∙ e))
-    (cases_Bool (same_word m.word w))
-
-pub found_later : (ms ns : List Name) (w : List ℕ) → lookup ms w ≡ None → lookup (ms ++ ns) w ≡ lookup ns w
-found_later [] ns w e = refl
-found_later (m ∷ ms) ns w e =
-    ⊎_elim
-    (λ s. absurd (none_some m.number (sym e ∙ cond-true (same_word m.word w) (Some m.number) (lookup ms w) s)))
-    (λ s.
-    cond-false (same_word m.word w) (Some m.number) (lookup (ms ++ ns) w) s
-    ∙ found_later ms ns w (sym (cond-false (same_word m.word w) (Some m.number) (lookup ms w) s) ∙ e))
-    (cases_Bool (same_word m.word w))
 
 -- the number that a name is found to have passes a test that all pass
 pub found_passes : (q : ℕ → Bool) (ns : List Name) (w : List ℕ) (k : ℕ) → all_numbers q ns ≡ true → lookup ns w ≡ Some k → q k ≡ true

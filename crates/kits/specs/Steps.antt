@@ -1,13 +1,13 @@
 -- Steps as kits read them in a table, and what a kit answers. A reader has to believe this file. Assumes nothing.
-use Rattle.std.specs.Prelude.{ℕ, Bool, true, false, List, map, vec_items}
+use Rattle.std.specs.Prelude.{ℕ, Bool, true, false, List, Ok, Err, Result, map, vec_items}
 use Rattle.pltl.specs.Formulas.{Formula}
 use Rattle.tables.specs.declared.table.Table.{Table}
 use Rattle.tables.specs.declared.sequent.Sequent.{Sequent}
 use Rattle.tables.specs.Listing.{formulas}
 use Rattle.tables.specs.Sets.{member, chosen}
 use Rattle.kits.specs.declared.steps.Step.{Step}
-use Rattle.kits.specs.declared.steps.Judgement.{Judgement}
-use Rattle.kits.specs.declared.steps.Judgement.TheVariants.{Unknown, Allowed, NotAllowed}
+use Rattle.kits.specs.declared.faults.KitFault.{KitFault}
+use Rattle.kits.specs.declared.faults.KitFault.TheVariants.{Unknown, NotAllowed}
 
 -- A step: a rule, a principal number, a conclusion and premises. Conclusion and premises are sets of formulas.
 pub record StepModel : Type 0 where
@@ -29,7 +29,7 @@ abbrev pub step_model : List Formula → Step → List Sequent → StepModel
 step_model fs st ps = record { rule = st.rule; principal = st.principal; conclusion = formulas_in fs st.conclusion; premises = map (formulas_in fs) ps }
 
 -- What a kit answers where the rule is known or not, and the step allowed or not.
-abbrev pub judgement : Bool → Bool → Judgement
-judgement false allowed = Unknown
-judgement true true = Allowed
-judgement true false = NotAllowed
+abbrev pub judgement : Bool → Bool → Result (Unit {0}) KitFault
+judgement false allowed = Err Unknown
+judgement true true = Ok tt
+judgement true false = Err NotAllowed

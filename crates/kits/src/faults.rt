@@ -2,9 +2,9 @@
 ghost use Rattle.std.specs.Prelude.{◌≡◌};
 ghost use Rattle.kits.specs.Faults.{refusal};
 
-use texts::Refusal;
+use texts::{Layer, Refusal};
 
-#[derive(Clone, Copy)]
+#[derive(Clone, Copy, PartialEq, Eq)]
 pub enum KitFault {
     // The kit does not know the rule or the name.
     Unknown,
@@ -12,17 +12,17 @@ pub enum KitFault {
     NotAllowed,
 }
 
-impl KitFault {
-    pub fn refusal(&self) -> Refusal
-        ensures { result ≡ refusal self.now }
-    {
-        let number = match self {
+impl From<KitFault> for Refusal {
+    ghost from_gives = { λ f r. r ≡ refusal f };
+
+    fn from(fault: KitFault) -> Refusal {
+        let number = match fault {
             KitFault::Unknown => 9,
             KitFault::NotAllowed => 12,
         };
         Refusal {
             number,
-            layer: 4,
+            layer: Layer::Kit,
             place: 0,
         }
     }

@@ -5,7 +5,8 @@ ghost use Rattle.calculus.specs.Sequents.{NoRun};
 ghost use Rattle.calculus.specs.Laws.{NoRuns};
 ghost use Rattle.kits.specs.Steps.{StepModel, listed, step_model, judgement};
 
-use super::steps::{Judgement, Step};
+use super::faults::KitFault;
+use super::steps::Step;
 use tables::{Sequent, Table};
 
 // A kit: a set of proof rules. It says which rules it knows, by number, which steps it allows, read in a table's
@@ -20,8 +21,8 @@ pub trait Kit {
 
     ghost named: { Self → List ℕ → Optional ℕ };
 
-    // Whether the rule is known, and the step allowed.
-    fn judge(&self, table: &Table, step: &Step, premises: &[Sequent]) -> Judgement
+    // Whether the rule is known and the step allowed, or why it is not.
+    fn judge(&self, table: &Table, step: &Step, premises: &[Sequent]) -> Result<(), KitFault>
         ensures { result ≡ judgement (knows self.now step.now.rule) (allows self.now (listed table.now) (step_model (listed table.now) step.now premises.now)) };
 
     // The number of a name.

@@ -10,4 +10,4 @@ pub use calculus::rules_stand;
 pub use faults::KitFault;
 pub use kit::Kit;
 pub use pair::Pair;
-pub use steps::{Judgement, Step};
+pub use steps::Step;

@@ -5,8 +5,9 @@ ghost use Rattle.kits.specs.Pairs.{pair_knows, pair_allows, pair_named, raised};
 ghost use Rattle.kits.specs.PairedKits.{named_by_one, allowed_by_one};
 ghost use Rattle.kits.specs.Pairs;
 
+use super::faults::KitFault;
 use super::kit::Kit;
-use super::steps::{Judgement, Step};
+use super::steps::Step;
 use tables::{Sequent, Table};
 
 // A pair of kits of any make, itself a kit: rules 1 to 99 go to the first, 101 to 999 to the second with 100 taken off.
@@ -54,12 +55,12 @@ impl<A: Kit, B: Kit> Kit for Pair<A, B> {
 
     ghost sound = { λ k fs st e none. ⊎_elim (λ a. A.Kit.sound k.first fs st a none) (λ b. B.Kit.sound k.second fs (Pairs.lowered st) b none) (allowed_by_one (A.Kit.allows k.first fs) (B.Kit.allows k.second fs) st e) };
 
-    fn judge(&self, table: &Table, step: &Step, premises: &[Sequent]) -> Judgement {
+    fn judge(&self, table: &Table, step: &Step, premises: &[Sequent]) -> Result<(), KitFault> {
         if step.rule <= FIRST_RULES {
             return self.first.judge(table, step, premises);
         }
         if step.rule <= MOVED || step.rule > RULES {
-            return Judgement::Unknown;
+            return Err(KitFault::Unknown);
         }
         let lowered = Step {
             rule: step.rule - MOVED,

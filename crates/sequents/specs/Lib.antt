@@ -1,3 +1,4 @@
+pub mod Numbered
 pub mod SequentRules
 pub mod Rooms
 pub mod AllowedSteps

@@ -9,6 +9,7 @@ use Rattle.pltl.specs.declared.Shape.{Shape}
 use Rattle.tables.specs.declared.number.Number.{Number}
 use Rattle.tables.specs.Listing.{numbered, formula_over, parts_below, Lawful}
 use Rattle.tables.specs.Sets.{member}
+use Rattle.sequents.specs.declared.rooms.Conclusion.{Conclusion}
 use Rattle.sequents.specs.declared.rooms.More.{More}
 use Rattle.sequents.specs.declared.rooms.More.TheVariants.{Nothing, NextOf, SomeAgain, UntilAgain}
 use Rattle.sequents.specs.declared.rooms.Room.{Room}
@@ -75,5 +76,5 @@ Plans fs rest Allows (Some p) = (plan_inside fs p ≡ true) × ((Δs : List (Lis
 Plans fs rest Allows None = (Δs : List (List Formula)) → Allows Δs → ⊥
 
 -- The plan of a rule, for each table and conclusion in which the principal formula and the rest are these.
-abbrev pub PlanOf : ℕ → Number → Shape Number → Sequent → Option Plan → Type 0
-PlanOf n m shape rest p = (fs : List Formula) (conclusion : Sequent) → Principal fs conclusion m shape rest → Plans fs rest (Rule (formulas_in fs conclusion) (numbered fs m.0) n) p
+abbrev pub PlanOf : ℕ → Conclusion → Option Plan → Type 0
+PlanOf n c p = (fs : List Formula) (conclusion : Sequent) → Principal fs conclusion c.m c.shape c.d → Plans fs c.d (Rule (formulas_in fs conclusion) (numbered fs c.m.0) n) p

@@ -1,7 +1,7 @@
 // Kit `s`: the sequent rules.
 #![tactic(auto)]
 
-ghost use Rattle.std.specs.Prelude.{◌≡◌, take, drop, refl};
+ghost use Rattle.std.specs.Prelude.{◌≡◌, refl};
 ghost use Rattle.kits.specs.Names.{lookup};
 ghost use Rattle.sequents.specs.SequentRules.{sequent_knows, sequent_names, sequent_allows};
 ghost use Rattle.kits.proofs.FoundNames.{found_passes, found_once};
@@ -15,44 +15,17 @@ ghost use Rattle.tables.specs.Listing;
 mod judging;
 mod premises;
 mod rooms;
+mod rule;
 mod rules;
 
 use judging::is_allowed;
-use kits::{Judgement, Kit, Step};
+use kits::{Kit, KitFault, Step};
+use rule::SequentRule;
 use tables::{Sequent, Table};
 
 // The sequent rules, numbered 1 to 11.
 #[derive(Clone, Copy)]
 pub struct Sequents;
-
-// The number of a name, of the rules up to 6.
-fn find_early(name: &[u8]) -> Option<u16>
-    ensures { result ≡ lookup (take 6 sequent_names) name.now }
-{
-    match name {
-        b"contra" => Some(1),
-        b"false" => Some(2),
-        b"and" => Some(3),
-        b"or" => Some(4),
-        b"always" => Some(5),
-        b"some" => Some(6),
-        _ => None,
-    }
-}
-
-// The number of a name, of the rules from 7 on.
-fn find_later(name: &[u8]) -> Option<u16>
-    ensures { result ≡ lookup (drop 6 sequent_names) name.now }
-{
-    match name {
-        b"until" => Some(7),
-        b"release" => Some(8),
-        b"some+" => Some(9),
-        b"until+" => Some(10),
-        b"next" => Some(11),
-        _ => None,
-    }
-}
 
 impl Kit for Sequents {
     const LETTER: u8 = b's';
@@ -75,18 +48,16 @@ impl Kit for Sequents {
 
     ghost sound = { λ k fs st e empty. rules_law st.conclusion (Listing.numbered fs st.principal) st.rule st.premises (allowed_is fs st e).1 empty };
 
-    fn judge(&self, table: &Table, step: &Step, premises: &[Sequent]) -> Judgement {
-        match step.rule {
-            1..=11 if is_allowed(table, step, premises) => Judgement::Allowed,
-            1..=11 => Judgement::NotAllowed,
-            _ => Judgement::Unknown,
+    fn judge(&self, table: &Table, step: &Step, premises: &[Sequent]) -> Result<(), KitFault> {
+        let rule = SequentRule::try_from(step.rule)?;
+        if is_allowed(table, rule, step, premises) {
+            Ok(())
+        } else {
+            Err(KitFault::NotAllowed)
         }
     }
 
     fn find(&self, name: &[u8]) -> Option<u16> {
-        match find_early(name) {
-            Some(n) => Some(n),
-            None => find_later(name),
-        }
+        SequentRule::named(name).map(u16::from)
     }
 }

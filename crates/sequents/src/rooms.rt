@@ -1,7 +1,16 @@
-// What the premises of a rule may have.
+// Conclusions, and what the premises of a rule may have.
 mod making;
 
+use pltl::Shape;
 use tables::{Number, Sequent};
+
+// A conclusion, as its principal formula m, by number and shape, and D, the conclusion without it.
+#[derive(Clone, Copy)]
+pub struct Conclusion {
+    pub m: Number,
+    pub shape: Shape<Number>,
+    pub d: Sequent,
+}
 
 // What a premise may have beside single formulas.
 #[derive(Clone, Copy)]

@@ -1,13 +1,35 @@
 // Refusals.
 ghost use Rattle.std.specs.Prelude.{◌≡◌};
-ghost use Rattle.texts.specs.Faults.{refusal};
+ghost use Rattle.texts.specs.Faults.{layer_number, refusal};
 
-// What is printed of a fault, of this layer or another: the layers are 1 text, 2 line, 3 case and 4 kit, and
-// places count from 0.
+// The layers that refuse.
+#[derive(Clone, Copy, PartialEq, Eq)]
+pub enum Layer {
+    Text,
+    Line,
+    Case,
+    Kit,
+}
+
+// The number that is printed of a layer, from 1.
+impl From<Layer> for usize {
+    ghost from_gives = { λ l n. n ≡ layer_number l };
+
+    fn from(layer: Layer) -> usize {
+        match layer {
+            Layer::Text => 1,
+            Layer::Line => 2,
+            Layer::Case => 3,
+            Layer::Kit => 4,
+        }
+    }
+}
+
+// What is printed of a fault, of this layer or another; places count from 0.
 #[derive(Clone, Copy)]
 pub struct Refusal {
     pub number: usize,
-    pub layer: usize,
+    pub layer: Layer,
     pub place: usize,
 }
 
@@ -25,11 +47,11 @@ pub enum TextFault {
     Full,
 }
 
-impl TextFault {
-    pub fn refusal(&self) -> Refusal
-        ensures { result ≡ refusal self.now }
-    {
-        let (number, place) = match *self {
+impl From<TextFault> for Refusal {
+    ghost from_gives = { λ f r. r ≡ refusal f };
+
+    fn from(fault: TextFault) -> Refusal {
+        let (number, place) = match fault {
             TextFault::Empty => (1, 0),
             TextFault::TooLong => (2, 512),
             TextFault::Unexpected(at) => (3, at),
@@ -38,7 +60,7 @@ impl TextFault {
         };
         Refusal {
             number,
-            layer: 1,
+            layer: Layer::Text,
             place,
         }
     }

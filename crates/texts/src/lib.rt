@@ -7,7 +7,7 @@ mod nodes;
 mod normal;
 mod theorems;
 
-pub use faults::{Refusal, TextFault};
+pub use faults::{Layer, Refusal, TextFault};
 pub use nodes::{Node, Syntax};
 pub use normal::Part;
 pub use theorems::grammar_stands;

@@ -12,8 +12,11 @@ ghost use Rattle.calculus.proofs.SoundUnits.{units_law};
 mod closure;
 
 use closure::is_contradictory;
-use kits::{Judgement, Kit, Step};
+use kits::{Kit, KitFault, Step};
 use tables::{Sequent, Table};
+
+// The number of the one rule.
+const UNIT: u16 = 1;
 
 // Unit closure, rule 1.
 #[derive(Clone, Copy)]
@@ -40,20 +43,20 @@ impl Kit for Units {
 
     ghost sound = { λ k fs st e runs. units_law st.conclusion (unit_asks st e).3 };
 
-    fn judge(&self, table: &Table, step: &Step, premises: &[Sequent]) -> Judgement {
-        if step.rule != 1 {
-            return Judgement::Unknown;
+    fn judge(&self, table: &Table, step: &Step, premises: &[Sequent]) -> Result<(), KitFault> {
+        if step.rule != UNIT {
+            return Err(KitFault::Unknown);
         }
-        if step.principal == 0 && premises.len() == 0 && is_contradictory(table, &step.conclusion) {
-            Judgement::Allowed
+        if step.principal == 0 && premises.is_empty() && is_contradictory(table, &step.conclusion) {
+            Ok(())
         } else {
-            Judgement::NotAllowed
+            Err(KitFault::NotAllowed)
         }
     }
 
     fn find(&self, name: &[u8]) -> Option<u16> {
         match name {
-            b"unit" => Some(1),
+            b"unit" => Some(UNIT),
             _ => None,
         }
     }

@@ -4,6 +4,7 @@ use Rattle.sequents.specs.Rooms.{Principal}
 use Rattle.kits.specs.Steps.{listed, formulas_in}
 use Rattle.sequents.specs.AllowedSteps.{principal_in}
 use Rattle.kits.proofs.InSequents.{member_from_in, table_lawful, table_even}
+use Rattle.sequents.proofs.RuleNumbers.{not_eleven}
 use Rattle.sequents.proofs.judging.has_principal.Goals as goal
 use Rattle.sequents.proofs.judging.has_principal.Goals.{After-plan}
 
@@ -13,7 +14,7 @@ returns-then-not-contains c =
     let fs = listed t in
     let st = c.args.step.now in (
       λ z. absurd (false≢true z),
-      λ s. absurd (both_ways _ c.if-not-contains.true (c.contains.ensures ∙ member_from_in fs (table_lawful t) st.conclusion st.principal s.0 (principal_in s.1 c.requires))),
+      λ s. absurd (both_ways _ c.if-not-contains.true (c.contains.ensures ∙ member_from_in fs (table_lawful t) st.conclusion st.principal s.0 (principal_in s.1 (not_eleven c.args.rule c.requires)))),
     )
 
 -- the number of the principal formula, its shape and the rest
