@@ -15,27 +15,19 @@ use Rattle.cases.specs.declared.faults.CaseFault.TheVariants.{SecondProperty, To
 use Rattle.cases.specs.declared.faults.CallFault.TheVariants.{Case}
 use Rattle.cases.specs.declared.kind.ClauseKind.{ClauseKind}
 use Rattle.cases.specs.declared.kind.ClauseKind.TheVariants.{Init, Invariant, Transition, Property}
-use Rattle.cases.specs.Drafts.{kind_of, root_formula, form_of, root_number, is_property, objection, clause_of_kind, draft_of_kind, clause_unless, draft_unless, clause, after_clause}
+use Rattle.cases.specs.Drafts.{root_formula, form_of, root_number, is_property, objection, clause_of_kind, draft_of_kind, clause_unless, draft_unless, clause_of, after_clause_of}
 use Rattle.cases.specs.Models.{DraftModel}
 use Rattle.cases.specs.Roots.{contains, noted}
 
 -- a draft that objects answers its objection, and stays as it was
-pub clause_objected : (d : DraftModel) (n : ℕ) (w : List ℕ) (f : CaseFault) → objection d (kind_of n) ≡ Some f → (Err (Case f) ≡ clause d n w) × (d ≡ after_clause d n w)
-unfolding clause after_clause
-clause_objected d n w f e = (ap (λ o. clause_unless o d (kind_of n) w) (sym e), ap (λ o. draft_unless o d (kind_of n) w) (sym e))
+pub clause_objected : (d : DraftModel) (k : ClauseKind) (w : List ℕ) (f : CaseFault) → objection d (Some k) ≡ Some f → (Err (Case f) ≡ clause_of d (Some k) w) × (d ≡ after_clause_of d (Some k) w)
+clause_objected d k w f e = (ap (λ o. clause_unless o d (Some k) w) (sym e), ap (λ o. draft_unless o d (Some k) w) (sym e))
 
-module _ (d : DraftModel) (n : ℕ) (w : List ℕ) (k : ClauseKind) (known : kind_of n ≡ Some k) (admitted : objection d (Some k) ≡ None) where
-  clause_is : clause_of_kind d k (answer d.formulas (form_of k) w) ≡ clause d n w
-  unfolding clause
-  clause_is = ap (λ o. clause_unless o d (Some k) w) (sym admitted) ∙ ap (λ o. clause_unless (objection d o) d o w) (sym known)
-
-  after_is : draft_of_kind d (after d.formulas (form_of k) w) k (answer d.formulas (form_of k) w) ≡ after_clause d n w
-  unfolding after_clause
-  after_is = ap (λ o. draft_unless o d (Some k) w) (sym admitted) ∙ ap (λ o. draft_unless (objection d o) d o w) (sym known)
-
-  -- what the text is answered is answered by the call
-  pub clause_admitted : (r : Result ℕ TextFault) → r ≡ answer d.formulas (form_of k) w → (clause_of_kind d k r ≡ clause d n w) × (draft_of_kind d (after d.formulas (form_of k) w) k r ≡ after_clause d n w)
-  clause_admitted r e = (ap (clause_of_kind d k) e ∙ clause_is, ap (draft_of_kind d (after d.formulas (form_of k) w) k) e ∙ after_is)
+-- what the text is answered is answered by the call
+pub clause_admitted : (d : DraftModel) (w : List ℕ) (k : ClauseKind) → objection d (Some k) ≡ None → (r : Result ℕ TextFault) → r ≡ answer d.formulas (form_of k) w
+    → (clause_of_kind d k r ≡ clause_of d (Some k) w) × (draft_of_kind d (after d.formulas (form_of k) w) k r ≡ after_clause_of d (Some k) w)
+clause_admitted d w k admitted r e =
+    (ap (clause_of_kind d k) e ∙ ap (λ o. clause_unless o d (Some k) w) (sym admitted), ap (draft_of_kind d (after d.formulas (form_of k) w) k) e ∙ ap (λ o. draft_unless o d (Some k) w) (sym admitted))
 
 -- the root formula has the number that is answered
 pub root_named : (fs : List Formula) (k : ClauseKind) (t : Tree) (m n : Number) → Lawful fs → Prim.Native.Nat.◌%◌ (length fs) 2 ≡ 0 → n.0 ≡ root_number k m.0 → Names fs m (entry (form_of k) t) → Names fs n (root_formula k t)

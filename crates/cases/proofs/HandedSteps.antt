@@ -1,5 +1,5 @@
 -- Numbers that a step hands in. Assumes nothing.
-use Rattle.std.proofs.Common.{◌≡◌, ℕ, zero, suc, ◌+◌, ◌<◌, ◌≤◌, Bool, true, false, ◌&&◌, ltb, leb, List, [], ◌∷◌, ◌++◌, map, length, get_or, Some, None, Option, sym, refl, ap, ◌∙◌, ap₂, ⊎_elim, arith}
+use Rattle.std.proofs.Common.{◌≡◌, ℕ, zero, suc, ◌+◌, ◌<◌, ◌≤◌, Bool, true, false, ◌&&◌, ltb, leb, List, [], ◌∷◌, ◌++◌, map, length, get_or, Some, None, Ok, Err, Option, Result, sym, refl, ap, ◌∙◌, ap₂, ⊎_elim, arith}
 use mathlib.Core.List.{map-map}
 use Rattle.std.proofs.lemmas.List.{map_push}
 use Rattle.std.proofs.lemmas.Bool.{cases_Bool, cond-true, cond-false, and_parts, leb-true, lt-ltb, le-ltb, le-leb, lt-leb, true≢false, false≢true, cases_lt}
@@ -7,8 +7,6 @@ use Rattle.tables.specs.declared.sequent.Sequent.{Sequent}
 use Rattle.tables.specs.Sets.{member, chosen}
 use Rattle.kits.specs.declared.faults.KitFault.{KitFault}
 use Rattle.kits.specs.declared.faults.KitFault.TheVariants.{Unknown, NotAllowed}
-use Rattle.kits.specs.declared.steps.Judgement.{Judgement}
-use Rattle.kits.specs.declared.steps.Judgement.TheVariants as j
 use Rattle.kits.specs.declared.steps.Step.{Step}
 use Rattle.kits.specs.Steps.{StepModel, step_model, judgement}
 use Rattle.cases.specs.declared.faults.CaseFault.{CaseFault}
@@ -89,17 +87,16 @@ pub premises_searched : (n : ℕ) (ps : List ℕ) (o : Option ℕ) → length ps
 premises_searched n ps o le e = cond-false _ (Some (NoSuchStep 2)) _ (le-ltb 2 (length ps) le) ∙ ap (at_index NoSuchStep) (sym e)
 
 -- what is objected where a kit answers so
-abbrev pub objected : Judgement → Option KitFault
-objected j.Unknown = Some Unknown
-objected j.NotAllowed = Some NotAllowed
-objected j.Allowed = None
+abbrev pub objected : Result (Unit {0}) KitFault → Option KitFault
+objected (Ok u) = None
+objected (Err f) = Some f
 
 judgement_objected : (known allowed : Bool) → kit_objection known allowed ≡ objected (judgement known allowed)
 judgement_objected false b = refl
 judgement_objected true false = refl
 judgement_objected true true = refl
 
-pub objected_by_kit : (k : KitModel) (c : SteppedModel) (s : StepCallModel) (st : StepModel) (r : Judgement) → numbers_objection c s ≡ None → step_read c s ≡ st → r ≡ judgement (k.knows s.rule) (k.allows c.case.formulas st) → step_objection k c s ≡ case_then_kit None (objected r)
+pub objected_by_kit : (k : KitModel) (c : SteppedModel) (s : StepCallModel) (st : StepModel) (r : Result (Unit {0}) KitFault) → numbers_objection c s ≡ None → step_read c s ≡ st → r ≡ judgement (k.knows s.rule) (k.allows c.case.formulas st) → step_objection k c s ≡ case_then_kit None (objected r)
 objected_by_kit k c s st r none same is =
     ap (λ o. case_then_kit o (kit_objection (k.knows s.rule) (k.allows c.case.formulas (step_read c s)))) none
     ∙ ap (case_then_kit None) (judgement_objected (k.knows s.rule) (k.allows c.case.formulas (step_read c s)) ∙ ap (λ x. objected (judgement (k.knows s.rule) (k.allows c.case.formulas x))) same ∙ ap objected (sym is))

@@ -23,6 +23,11 @@ use Rattle.cases.specs.Roots.{noted}
 abbrev pub kind_of : ℕ → Option ClauseKind
 kind_of n = cond (n == 1) (Some Init) (cond (n == 2) (Some Invariant) (cond (n == 3) (Some Transition) (cond (n == 4) (Some Property) None)))
 
+-- The kind with a number, or the refusal where there is none.
+abbrev pub KindNumbered : ℕ → Result ClauseKind CaseFault → Type 0
+KindNumbered n (Ok k) = kind_of n ≡ Some k
+KindNumbered n (Err f) = (kind_of n ≡ None) × (f ≡ UnknownKind)
+
 -- The root formula of a clause: the formula, its always, or its opposite.
 abbrev pub root_formula : ClauseKind → Tree → Formula
 root_formula Init t = normal t
@@ -32,6 +37,10 @@ root_formula Property t = opposite (normal t)
 
 -- n is the number of the root formula of a clause: its text spells a tree, whose root formula of that kind has the
 -- number n.
+abbrev pub RootOfKind : List Formula → Number → ClauseKind → List ℕ → Type 0
+RootOfKind fs n k w = (t : Tree) × Spells implication t w × Names fs n (root_formula k t)
+
+-- The same, by the number of the kind.
 abbrev pub RootOf : List Formula → Number → ℕ → List ℕ → Type 0
 RootOf fs n kind w = (k : ClauseKind) × (t : Tree) × (kind_of kind ≡ Some k) × Spells implication t w × Names fs n (root_formula k t)
 
@@ -77,12 +86,19 @@ draft_unless (Some f) d k w = d
 draft_unless None d (Some k) w = draft_of_kind d (after d.formulas (form_of k) w) k (answer d.formulas (form_of k) w)
 draft_unless None d None w = d
 
--- Clause: the answer, and the draft afterwards.
+-- A clause of a kind, if there is one: the answer, and the draft afterwards.
+abbrev pub clause_of : DraftModel → Option ClauseKind → List ℕ → Result ℕ CallFault
+clause_of d k w = clause_unless (objection d k) d k w
+
+abbrev pub after_clause_of : DraftModel → Option ClauseKind → List ℕ → DraftModel
+after_clause_of d k w = draft_unless (objection d k) d k w
+
+-- A clause by the number of its kind: the answer, and the draft afterwards.
 unfoldable pub clause : DraftModel → ℕ → List ℕ → Result ℕ CallFault
-clause d n w = clause_unless (objection d (kind_of n)) d (kind_of n) w
+clause d n w = clause_of d (kind_of n) w
 
 unfoldable pub after_clause : DraftModel → ℕ → List ℕ → DraftModel
-after_clause d n w = draft_unless (objection d (kind_of n)) d (kind_of n) w
+after_clause d n w = after_clause_of d (kind_of n) w
 
 -- no states, and no back position
 abbrev pub no_run : RunModel

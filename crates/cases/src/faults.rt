@@ -4,7 +4,7 @@ ghost use Rattle.cases.specs.declared.faults.CallFault.TheVariants.{Text, Case, 
 ghost use Rattle.cases.specs.Faults.{case_refusal, refusal};
 
 use kits::KitFault;
-use texts::{Refusal, TextFault};
+use texts::{Layer, Refusal, TextFault};
 
 // Why a draft or a case refuses a call.
 #[derive(Clone, Copy)]
@@ -32,11 +32,11 @@ pub enum CaseFault {
     FalseRoot(usize),
 }
 
-impl CaseFault {
-    pub fn refusal(&self) -> Refusal
-        ensures { result ≡ case_refusal self.now }
-    {
-        let (number, place) = match *self {
+impl From<CaseFault> for Refusal {
+    ghost from_gives = { λ f r. r ≡ case_refusal f };
+
+    fn from(fault: CaseFault) -> Refusal {
+        let (number, place) = match fault {
             CaseFault::UnknownKind => (6, 0),
             CaseFault::SecondProperty => (7, 0),
             CaseFault::TooManyClauses => (8, 0),
@@ -51,7 +51,7 @@ impl CaseFault {
         };
         Refusal {
             number,
-            layer: 3,
+            layer: Layer::Case,
             place,
         }
     }
@@ -65,14 +65,14 @@ pub enum CallFault {
     Kit(KitFault),
 }
 
-impl CallFault {
-    pub fn refusal(&self) -> Refusal
-        ensures { result ≡ refusal self.now }
-    {
-        match self {
-            CallFault::Text(fault) => fault.refusal(),
-            CallFault::Case(fault) => fault.refusal(),
-            CallFault::Kit(fault) => fault.refusal(),
+impl From<CallFault> for Refusal {
+    ghost from_gives = { λ f r. r ≡ refusal f };
+
+    fn from(fault: CallFault) -> Refusal {
+        match fault {
+            CallFault::Text(fault) => Refusal::from(fault),
+            CallFault::Case(fault) => Refusal::from(fault),
+            CallFault::Kit(fault) => Refusal::from(fault),
         }
     }
 }

@@ -1,7 +1,8 @@
 // The kinds of clauses.
 ghost use Rattle.std.specs.Prelude.{◌≡◌};
-ghost use Rattle.cases.specs.Drafts.{kind_of, form_of, root_number, is_property};
+ghost use Rattle.cases.specs.Drafts.{KindNumbered, form_of, root_number, is_property};
 
+use super::faults::CaseFault;
 use pltl::Dual;
 use tables::{Form, Number};
 
@@ -17,20 +18,24 @@ pub enum ClauseKind {
     Property,
 }
 
-impl ClauseKind {
-    // The kind with a number, from 1 to 4.
-    pub fn numbered(number: usize) -> Option<ClauseKind>
-        ensures { result ≡ kind_of number }
-    {
+// The kind with a number, from 1 to 4.
+impl TryFrom<usize> for ClauseKind {
+    type Error = CaseFault;
+
+    ghost try_from_gives = { KindNumbered };
+
+    fn try_from(number: usize) -> Result<ClauseKind, CaseFault> {
         match number {
-            1 => Some(ClauseKind::Init),
-            2 => Some(ClauseKind::Invariant),
-            3 => Some(ClauseKind::Transition),
-            4 => Some(ClauseKind::Property),
-            _ => None,
+            1 => Ok(ClauseKind::Init),
+            2 => Ok(ClauseKind::Invariant),
+            3 => Ok(ClauseKind::Transition),
+            4 => Ok(ClauseKind::Property),
+            _ => Err(CaseFault::UnknownKind),
         }
     }
+}
 
+impl ClauseKind {
     // Which formula of the text is numbered: an invariant and a transition stand under an always.
     pub fn form(self) -> Form
         ensures { result ≡ form_of self }

@@ -13,11 +13,12 @@ pub enum Verdict {
     Counterexample,
 }
 
-impl Verdict {
-    pub fn number(self) -> usize
-        ensures { result ≡ verdict_number self }
-    {
-        match self {
+// The number that a verdict is answered by.
+impl From<Verdict> for usize {
+    ghost from_gives = { λ v n. n ≡ verdict_number v };
+
+    fn from(verdict: Verdict) -> usize {
+        match verdict {
             Verdict::Undecided => 0,
             Verdict::Holds => 1,
             Verdict::Counterexample => 2,

@@ -5,7 +5,7 @@ ghost use Rattle.texts.specs.Grammar.{Spells, implication};
 ghost use Rattle.tables.specs.Steps.{Names};
 ghost use Rattle.tables.specs.Answers.{answer, by_number};
 ghost use Rattle.tables.specs.declared.table.entering.Form.TheVariants.{Itself};
-ghost use Rattle.cases.specs.Drafts.{kind_of, RootOf, objection, clause, after_clause, sealed, after_form};
+ghost use Rattle.cases.specs.Drafts.{RootOf, RootOfKind, objection, clause, clause_of, after_clause, after_clause_of, sealed, after_form};
 ghost use Rattle.cases.specs.Results.{call_number};
 ghost use Rattle.cases.specs.Views.{draft_model, case_model, stepped_model};
 
@@ -53,29 +53,37 @@ impl<K: Kit + Drop> Draft<K> {
         ensures root { IfOk result (λ n. RootOf (draft_model self.new).formulas n kind text.now) }
         ensures kit { self.new.kit ≡ self.old.kit }
     {
-        let kind = self.admitted(kind)?;
+        let kind = ClauseKind::try_from(kind)?;
+        self.add(kind, text)
+    }
+
+    // Takes a clause: the number of its root formula, or why it is refused.
+    pub fn add(&mut self, kind: ClauseKind, text: &[u8]) -> Result<Number, CallFault>
+        ensures value { call_number result ≡ clause_of (draft_model self.old) (Some kind) text.now }
+        ensures after { draft_model self.new ≡ after_clause_of (draft_model self.old) (Some kind) text.now }
+        ensures root { IfOk result (λ n. RootOfKind (draft_model self.new).formulas n kind text.now) }
+        ensures kit { self.new.kit ≡ self.old.kit }
+    {
+        self.admit(kind)?;
         let entered = self.table.enter(&mut self.syntax, text, kind.form())?;
         let root = kind.root(entered);
         self.roots.note(root);
         self.clauses += 1;
-        self.property = kind.is_property() | self.property;
+        self.property |= kind.is_property();
         Ok(root)
     }
 
-    // The kind of a clause, or what the draft objects to it before its text is read.
-    fn admitted(&self, kind: usize) -> Result<ClauseKind, CaseFault>
-        ensures { MatchResult result (λ k. (kind_of kind ≡ Some k) × (objection (draft_model self.now) (Some k) ≡ None)) (λ f. objection (draft_model self.now) (kind_of kind) ≡ Some f) }
+    // What the draft objects to a clause before its text is read.
+    fn admit(&self, kind: ClauseKind) -> Result<(), CaseFault>
+        ensures { MatchResult result (λ _. objection (draft_model self.now) (Some kind) ≡ None) (λ f. objection (draft_model self.now) (Some kind) ≡ Some f) }
     {
-        let Some(kind) = ClauseKind::numbered(kind) else {
-            return Err(CaseFault::UnknownKind);
-        };
         if kind.is_property() && self.property {
             return Err(CaseFault::SecondProperty);
         }
         if self.clauses >= MOST_CLAUSES {
             return Err(CaseFault::TooManyClauses);
         }
-        Ok(kind)
+        Ok(())
     }
 
     // Seals the draft: its case, and the count of distinct root formulas.

@@ -24,7 +24,7 @@ impl<K: Kit + Drop> Case<K> {
             Call::State(letters) => Ok(self.state(letters)?),
             Call::Loop(back) => Ok(self.close_loop(back)?),
             Call::Drop => Ok(self.drop_run()),
-            Call::Verdict => Ok(self.verdict().number()),
+            Call::Verdict => Ok(usize::from(self.verdict())),
         }
     }
 }

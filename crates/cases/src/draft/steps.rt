@@ -12,7 +12,8 @@ use super::super::call::StepCall;
 use super::super::faults::{CallFault, CaseFault};
 use super::super::verdict::Verdict;
 use super::{Case, MOST_STEPS};
-use kits::{Judgement, Kit, KitFault, Step};
+use arrayvec::ArrayVec;
+use kits::{Kit, Step};
 use tables::{Number, Sequent};
 
 // The most premises that a step has.
@@ -41,14 +42,8 @@ impl<K: Kit + Drop> Case<K> {
             principal: step.principal,
             conclusion,
         };
-        match self
-            .kit
-            .judge(&self.table, &read, &premises[..step.premises.len()])
-        {
-            Judgement::Unknown => Err(CallFault::Kit(KitFault::Unknown)),
-            Judgement::NotAllowed => Err(CallFault::Kit(KitFault::NotAllowed)),
-            Judgement::Allowed => Ok(conclusion),
-        }
+        self.kit.judge(&self.table, &read, &premises)?;
+        Ok(conclusion)
     }
 
     // The conclusion of a step as a set, or what the case objects to the step before its kit is asked.
@@ -69,13 +64,13 @@ impl<K: Kit + Drop> Case<K> {
     }
 
     // The conclusions of up to two taken steps, by their numbers.
-    fn held(&self, premises: &[u16]) -> [Sequent; 2]
+    fn held(&self, premises: &[u16]) -> ArrayVec<Sequent, MOST_PREMISES>
         requires { premises_objection (vec_len self.now.steps) premises.now ≡ None }
-        ensures { map member (take (length premises.now) result) ≡ map (conclusion_of (stepped_model self.now).steps) premises.now }
+        ensures { map member result.items ≡ map (conclusion_of (stepped_model self.now).steps) premises.now }
     {
-        let mut held = [Sequent::empty(); 2];
-        for (i, premise) in premises.iter().enumerate() {
-            held[i] = self.steps[*premise as usize - 1];
+        let mut held = ArrayVec::new();
+        for premise in premises {
+            held.push(self.steps[*premise as usize - 1]);
         }
         held
     }

@@ -1,8 +1,9 @@
 use Rattle.std.proofs.Common.{◌≡◌, map, length, take, vec_items}
+use Rattle.arrayvec.specs.ArrayVec.{array_vec_len}
 use Rattle.tables.specs.Sets.{member}
 use Rattle.cases.specs.Steps.{conclusion_of}
 use Rattle.cases.proofs.draft.Case.held.Given as goal
 
 -- the premises that are past are held
-abbrev pub invariant-loop-i : goal.invariant-loop-i
-invariant-loop-i g l = (length l.held ≡ 2) × (map member (take l.i l.held) ≡ map (conclusion_of (map member (vec_items l.self.steps))) (take l.i l.premises))
+abbrev pub invariant-loop-premise : goal.invariant-loop-premise
+invariant-loop-premise g l = (array_vec_len l.held ≡ l.premise-index) × (map member l.held.items ≡ map (conclusion_of (map member (vec_items l.self.steps))) (take l.premise-index l.premises))

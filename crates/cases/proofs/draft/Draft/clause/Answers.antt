@@ -1,69 +1,25 @@
-use Rattle.std.proofs.Common.{◌≡◌, ◌+◌, ◌%◌, ◌≤◌, true, ◌||◌, length, Ok, Err, vec_items, vec_len, sym, refl, ap, ◌∙◌, subst, arith}
-use Rattle.std.proofs.lemmas.List.{length-map}
+use Rattle.std.proofs.Common.{Err, sym, ap, ◌∙◌}
 use Rattle.std.proofs.lemmas.Result.{err_from_is_err_and}
-use Rattle.tables.specs.Answers.{answer, after, by_number, entry}
-use Rattle.tables.specs.Listing.{formulas}
-use Rattle.tables.specs.Steps.{Names}
-use Rattle.tables.proofs.Answered.{after_refused}
-use Rattle.tables.proofs.Listed.{length_formulas}
+use Rattle.cases.specs.Drafts.{clause, after_clause, clause_of, after_clause_of}
+use Rattle.cases.specs.declared.faults.CallFault.TheVariants.{Case}
 use Rattle.cases.specs.Results.{call_number}
-use Rattle.tables.proofs.Growth.{length_grown}
-use Rattle.cases.specs.Roots.{noted, plain, all_below}
-use Rattle.cases.proofs.Inside.{all_below_more, all_below_noted}
 use Rattle.cases.specs.Views.{draft_model}
-use Rattle.cases.proofs.Clauses.{clause_objected, clause_admitted, root_named, length_noted, admitted_room}
 use Rattle.cases.proofs.draft.Draft.clause.Goals as goal
 
-pub returns-in_err-kind : goal.returns-in_err-kind
-returns-in_err-kind g c =
+pub returns-in_err-kind-clause-value : goal.returns-in_err-kind-clause-value
+unfolding clause
+returns-in_err-kind-clause-value g c =
     let p = err_from_is_err_and c.from_residual.result c.from_residual.ensures.1 in
-    let a = clause_objected (draft_model c.args.self.now) c.args.kind c.args.text.now _ c.in_err-kind.ensures in
-    record { value = ap call_number p.1 ∙ ap Err p.2 ∙ a.0; after = a.1; root = rw p.1 tt; kit = refl }
+    ap call_number p.1 ∙ ap Err p.2 ∙ ap (λ f. Err (Case f)) c.in_err-kind.ensures.1 ∙ ap (λ k. clause_of (draft_model c.args.self.now) k c.args.text.now) (sym c.in_err-kind.ensures.0)
 
-pub returns-in_err-entered : goal.returns-in_err-entered
-returns-in_err-entered g c =
-    let p = err_from_is_err_and c.from_residual-in_err-entered.result c.from_residual-in_err-entered.ensures.1 in
-    let d = draft_model c.args.self.now in
-    let w = c.args.text.now in
-    let told = c.in_ok-kind.ensures in
-    let e = c.in_err-entered.ensures in
-    let read = e.value ∙ ap (λ m. answer d.formulas m w) c.form.ensures in
-    let a = clause_admitted d c.args.kind w _ told.0 told.1 (by_number (Err c.in_err-entered.field-0.0)) read in
-    record { value = ap call_number p.1 ∙ ap Err p.2 ∙ a.0; after = (λ i. record { formulas = (e.after ∙ after_refused d.formulas c.form.result w _ e.value) i; roots = d.roots; clauses = d.clauses; property = d.property }) ∙ a.1; root = rw p.1 tt; kit = refl }
+pub returns-in_err-kind-clause-after : goal.returns-in_err-kind-clause-after
+unfolding after_clause
+returns-in_err-kind-clause-after g c = ap (λ k. after_clause_of (draft_model c.args.self.now) k c.args.text.now) (sym c.in_err-kind.ensures.0)
 
-pub returns : goal.returns
-returns g c =
-    let d = draft_model c.args.self.now in
-    let w = c.args.text.now in
-    let told = c.in_ok-kind.ensures in
-    let k = c.in_ok-kind.kind in
-    let e = c.in_ok-entered.ensures in
-    let m = c.in_ok-entered.entered in
-    let read = e.value ∙ ap (λ m. answer d.formulas m w) c.form.ensures in
-    let a = clause_admitted d c.args.kind w k told.0 told.1 (Ok m.0) read in
-    let fs = e.after ∙ ap (λ m. after d.formulas m w) c.form.ensures in
-    let roots = c.note.ensures ∙ ap (noted d.roots) c.root-root.ensures in
-    let t = c.enter.new.self in
-    let ss = vec_items t.shapes in
-    let even : length (formulas ss) % 2 ≡ 0 = subst (λ n. n % 2 ≡ 0) (t.shapes.ok.0 ∙ sym (length_formulas ss)) t.even in
-    let named = e.names in
-    record {
-      value = ap Ok c.root-root.ensures ∙ a.0;
-      after = (λ i. record { formulas = fs i; roots = roots i; clauses = d.clauses + 1; property = c.is_property.ensures i || d.property }) ∙ a.1;
-      root = (k, named.0, told.0, named.1, root_named (formulas ss) k named.0 m c.root-root.result e.lawful even c.root-root.ensures (subst (λ f. Names (formulas ss) m (entry f named.0)) c.form.ensures named.2));
-      kit = refl;
-    }
+pub returns-clause-value : goal.returns-clause-value
+unfolding clause
+returns-clause-value g c = let d = draft_model c.args.self.now in c.add.ensures.value ∙ ap (λ k. clause_of d k c.args.text.now) (sym c.in_ok-kind.ensures)
 
-pub invariant_of-self-2 : goal.invariant_of-self-2
-invariant_of-self-2 g c =
-    let told = c.in_ok-kind.ensures in
-    let t = c.args.self.now in
-    let old = t.roots.numbers in
-    let new = c.note.new.self.numbers in
-    let long : vec_len new ≤ vec_len old + 1 = omega (arith, new.ok.0, old.ok.0, length-map (vec_items new) (λ n. n.0), length-map (vec_items old) (λ n. n.0), ap length c.note.ensures, length_noted (plain (vec_items old)) c.root-root.result.0) in
-    let e = c.in_ok-entered.ensures in
-    let ss = vec_items c.enter.new.self.shapes in
-    let fs = formulas ss in
-    let even : length fs % 2 ≡ 0 = subst (λ n. n % 2 ≡ 0) (c.enter.new.self.shapes.ok.0 ∙ sym (length_formulas ss)) c.enter.new.self.even in
-    let named = root_named fs c.in_ok-kind.kind e.names.0 c.in_ok-entered.entered c.root-root.result e.lawful even c.root-root.ensures (subst (λ f. Names fs c.in_ok-entered.entered (entry f e.names.0)) c.form.ensures e.names.2) in
-    record { room = t.room; none = t.none; few = omega (arith, admitted_room (draft_model t) c.in_ok-kind.kind told.1); rooted = omega (arith, t.rooted); inside = subst (λ l. all_below (length fs) l ≡ true) (sym c.note.ensures) (all_below_noted (plain (vec_items old)) (length fs) c.root-root.result.0 (all_below_more (plain (vec_items old)) _ (length fs) (length_grown e.grown) t.inside) named.0) }
+pub returns-clause-after : goal.returns-clause-after
+unfolding after_clause
+returns-clause-after g c = let d = draft_model c.args.self.now in c.add.ensures.after ∙ ap (λ k. after_clause_of d k c.args.text.now) (sym c.in_ok-kind.ensures)
