@@ -6,7 +6,6 @@ use Rattle.std.proofs.lemmas.Bool.{cases_Bool, cond-true, cond-false, and_parts,
 use Rattle.tables.specs.declared.sequent.Sequent.{Sequent}
 use Rattle.tables.specs.Sets.{member, chosen}
 use Rattle.kits.specs.declared.faults.KitFault.{KitFault}
-use Rattle.kits.specs.declared.faults.KitFault.TheVariants.{Unknown, NotAllowed}
 use Rattle.kits.specs.declared.steps.Step.{Step}
 use Rattle.kits.specs.Steps.{StepModel, step_model, judgement}
 use Rattle.cases.specs.declared.faults.CaseFault.{CaseFault}

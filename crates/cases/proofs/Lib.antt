@@ -2,6 +2,7 @@ pub mod Noted
 pub mod Clauses
 pub mod Recorded
 pub mod Inside
+pub mod Listed
 pub mod Smallest
 pub mod Looped
 pub mod NumberSets

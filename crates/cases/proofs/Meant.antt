@@ -14,7 +14,8 @@ use Rattle.cases.specs.Models.{CaseModel, SteppedModel}
 use Rattle.cases.specs.Recordings.{is_closed}
 use Rattle.cases.specs.Roots.{contains}
 use Rattle.cases.specs.Steps.{nothing}
-use Rattle.cases.specs.Verdicts.{root_formulas, some_of, only_roots, Recorded, Means, all_in, SameFormulas, verdict}
+use Rattle.std.specs.List.{list_any}
+use Rattle.cases.specs.Verdicts.{root_formulas, only_roots, Recorded, Means, all_in, SameFormulas, verdict}
 use Rattle.cases.proofs.Looped.{satisfied_tells, looped_is}
 
 -- the formulas of a list of numbers
@@ -59,7 +60,7 @@ all_in_from (suc n) S T h = and_from _ _ (implies (S n) (T n) (h n)) (all_in_fro
     implies false b f = refl
 
 -- a test that some element passes
-pub some_of_at : {X : Type 0} (test : X → Bool) (xs : List X) (d : X) → some_of test xs ≡ true → (i : ℕ) × (i < length xs) × (test (get_or xs i d) ≡ true)
+pub some_of_at : {X : Type 0} (test : X → Bool) (xs : List X) (d : X) → list_any test xs ≡ true → (i : ℕ) × (i < length xs) × (test (get_or xs i d) ≡ true)
 some_of_at test [] d e = absurd (false≢true e)
 some_of_at test (x ∷ xs) d e = ⊎_elim (λ h. (0, omega arith, h)) (λ r. let i = some_of_at test xs d r in (suc i.0, omega (arith, i.1), i.2)) (or_cases _ _ e)
 
@@ -88,12 +89,12 @@ closed_at (Some b) e = (b, refl)
 
 holds_means : (c : SteppedModel) → Good c → verdict c ≡ 1 → NoRun (root_formulas c.case)
 holds_means c h e =
-    let i = some_of_at (only_roots c.case) c.steps nothing (verdict_one (some_of (only_roots c.case) c.steps) (is_closed c.case.run.back) e) in
+    let i = some_of_at (only_roots c.case) c.steps nothing (verdict_one (list_any (only_roots c.case) c.steps) (is_closed c.case.run.back) e) in
     no_run_more _ _ (only_roots_among c.case (get_or c.steps i.0 nothing) i.2) (h.refuted i.0 i.1)
 
 counterexample_means : (c : SteppedModel) → Good c → verdict c ≡ 2 → (r : Run) × Recorded c.case r × SatisfiesAll r (root_formulas c.case)
 counterexample_means c h e =
-    let back = closed_at c.case.run.back (verdict_two (some_of (only_roots c.case) c.steps) (is_closed c.case.run.back) e) in
+    let back = closed_at c.case.run.back (verdict_two (list_any (only_roots c.case) c.steps) (is_closed c.case.run.back) e) in
     let r : Run = record { states = c.case.run.states; back = back.0; within = h.closed back.0 back.1 } in (
       r,
       (refl, back.1),

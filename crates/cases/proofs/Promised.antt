@@ -16,7 +16,8 @@ use Rattle.cases.specs.Promise.{KitLaw, rising, among, DerivationStep, Derivatio
 use Rattle.cases.specs.Recordings.{is_closed, event_objection, after_event, kept_unless, answer_unless}
 use Rattle.cases.specs.Roots.{contains}
 use Rattle.cases.specs.Steps.{StepCallModel, first_unfit, first_missing, step_read, step_objection, without_steps, with_case, with_step, changed_unless, number_unless}
-use Rattle.cases.specs.Verdicts.{root_formulas, some_of, only_roots, Means}
+use Rattle.std.specs.List.{list_any}
+use Rattle.cases.specs.Verdicts.{root_formulas, only_roots, Means}
 use Rattle.cases.specs.Verdicts as v
 use Rattle.cases.specs.declared.faults.CallFault.{CallFault}
 use Rattle.cases.specs.declared.recorder.Event.TheVariants.{State, Loop}
@@ -109,14 +110,14 @@ step_taken k law c s n rest len lt d =
     ap (λ x. number_unless x (length c.steps + 1) ∷ answers_to k (changed_unless x (with_step c (contains s.conclusion)) c) rest) o
     ∙ ap (λ m. Ok (m + 1) ∷ answers_to k (with_step c (contains s.conclusion)) rest) len
 
-some_of_last : {X : Type 0} (test : X → Bool) (xs : List X) (x : X) → test x ≡ true → some_of test (xs ++ x ∷ []) ≡ true
+some_of_last : {X : Type 0} (test : X → Bool) (xs : List X) (x : X) → test x ≡ true → list_any test (xs ++ x ∷ []) ≡ true
 some_of_last test [] x e = or_left _ _ e
 some_of_last test (y ∷ xs) x e = or_right _ _ (some_of_last test xs x e)
 
 -- the verdict is 1 when the last conclusion has only root formulas
 verdict_holds : (c : SteppedModel) (S : ℕ → Bool) → ((n : ℕ) → S n ≡ true → contains c.case.roots n ≡ true) → v.verdict (with_step c S) ≡ 1
 verdict_holds c S roots =
-    cond-true (some_of (only_roots c.case) (c.steps ++ S ∷ [])) 1 (cond (is_closed c.case.run.back) 2 0) (some_of_last (only_roots c.case) c.steps S (all_in_from (length c.case.formulas) S (contains c.case.roots) roots))
+    cond-true (list_any (only_roots c.case) (c.steps ++ S ∷ [])) 1 (cond (is_closed c.case.run.back) 2 0) (some_of_last (only_roots c.case) c.steps S (all_in_from (length c.case.formulas) S (contains c.case.roots) roots))
 
 pub derivation_taken : (k : KitModel) → KitLaw k → (c : SteppedModel) (ss : List StepCallModel) (n : ℕ) → length c.steps ≡ n → n + length ss ≤ 400 → Derivation k c ss → answers_to k c (map step ss ++ verdict ∷ []) ≡ counted (n + 1) ss ++ Ok 1 ∷ []
 derivation_taken k law c [] n len few d = absurd d
@@ -161,7 +162,7 @@ run_taken k c words r none empty letters few states sat =
     ∙ ap (λ l. counted 0 words ++ l) (
     ap (λ x. case_answer (answer_unless x (length last.case.run.states)) ∷ Ok (v.verdict (with_case last (kept_unless x (with_run last.case (after_event last.case.run (Loop r.back))) last.case))) ∷ []) o
     ∙ ap (λ m. Ok m ∷ Ok (v.verdict (with_case last (with_run last.case (after_event last.case.run (Loop r.back))))) ∷ []) (ap length held ∙ length-map words state_of)
-    ∙ ap (λ t. Ok (length words) ∷ Ok (cond t 1 2) ∷ []) (ap (some_of (only_roots last.case)) none)
+    ∙ ap (λ t. Ok (length words) ∷ Ok (cond t 1 2) ∷ []) (ap (list_any (only_roots last.case)) none)
     )
 
 pub promised : (k : KitModel) (m : CaseModel) → KitLaw k → Good (without_steps m) → m.run ≡ no_run → (calls : List CallModel) → Promise k m calls (answers_to k (without_steps m) calls)

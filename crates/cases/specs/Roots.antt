@@ -1,10 +1,10 @@
 -- The numbers of the root formulas, each once. Assumes nothing.
-use Rattle.std.specs.Prelude.{ℕ, Bool, true, false, cond, not, ◌&&◌, ◌||◌, List, [], ◌∷◌, ◌++◌, map, Some, None, Option, ◌==◌, nat_lt}
+use Rattle.std.specs.Prelude.{ℕ, Bool, true, cond, not, ◌&&◌, List, [], ◌∷◌, ◌++◌, map, Some, None, Option, ◌==◌, nat_lt}
+use Rattle.std.specs.List.{list_any}
 use Rattle.tables.specs.declared.number.Number.{Number}
 
 abbrev pub contains : List ℕ → ℕ → Bool
-contains [] n = false
-contains (m ∷ ms) n = m == n || contains ms n
+contains ms n = list_any (λ m. m == n) ms
 
 -- One number more, unless it is there.
 abbrev pub noted : List ℕ → ℕ → List ℕ

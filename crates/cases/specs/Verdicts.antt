@@ -1,5 +1,6 @@
 -- The verdict, and what it means. A reader has to believe this file. Assumes nothing.
-use Rattle.std.specs.Prelude.{◌≡◌, ℕ, zero, suc, Bool, true, false, cond, not, ◌&&◌, ◌||◌, List, [], ◌∷◌, map, length, Some}
+use Rattle.std.specs.Prelude.{◌≡◌, ℕ, zero, suc, Bool, true, cond, not, ◌&&◌, ◌||◌, List, map, length, Some}
+use Rattle.std.specs.List.{list_any}
 use Rattle.pltl.specs.Formulas.{Formula}
 use Rattle.pltl.specs.Runs.{Run}
 use Rattle.calculus.specs.Sequents.{◌∈◌, SatisfiesAll, NoRun}
@@ -23,13 +24,9 @@ all_in (suc n) S T = (not (S n) || T n) && all_in n S T
 abbrev pub only_roots : CaseModel → (ℕ → Bool) → Bool
 only_roots c S = all_in (length c.formulas) S (contains c.roots)
 
-abbrev pub some_of : {X : Type 0} → (X → Bool) → List X → Bool
-some_of test [] = false
-some_of test (x ∷ xs) = test x || some_of test xs
-
 -- 1 (holds) if some taken step's conclusion has only root formulas, else 2 (counterexample) if the run is closed, else 0.
 abbrev pub verdict : SteppedModel → ℕ
-verdict c = cond (some_of (only_roots c.case) c.steps) 1 (cond (is_closed c.case.run.back) 2 0)
+verdict c = cond (list_any (only_roots c.case) c.steps) 1 (cond (is_closed c.case.run.back) 2 0)
 
 abbrev pub verdict_number : Verdict → ℕ
 verdict_number Undecided = 0

@@ -35,12 +35,7 @@ impl Roots {
     pub fn contains(&self, number: Number) -> bool
         ensures { result ≡ contains (plain self.now.numbers.items) number.0 }
     {
-        for known in self.numbers.iter() {
-            if known.0 == number.0 {
-                return true;
-            }
-        }
-        false
+        self.numbers.iter().any(|known| known.0 == number.0)
     }
 
     // The numbers as a set.
@@ -68,21 +63,10 @@ impl Roots {
     pub(crate) fn least_false(&self, rows: &Rows) -> Option<usize>
         ensures { result ≡ least_failing (λ n. bit (slice_index rows.now.words n) 0) None (plain self.now.numbers.items) }
     {
-        let mut least = None;
-        for number in self.numbers.iter() {
-            least = smallest(least, rows.holds_first(*number), number.0 as usize);
-        }
-        least
-    }
-}
-
-// The smaller of the smallest so far and a number that fails a test.
-fn smallest(least: Option<usize>, passes: bool, number: usize) -> Option<usize>
-    ensures { result ≡ (if passes then least else smaller least number) }
-{
-    match least {
-        _ if passes => least,
-        Some(found) if found <= number => least,
-        _ => Some(number),
+        self.numbers
+            .iter()
+            .filter(|number| !rows.holds_first(**number))
+            .map(|number| number.0 as usize)
+            .min()
     }
 }

@@ -39,8 +39,8 @@ pub fn record<K: Kit + Drop>(draft: Draft<K>, entries: &mut [Entry<'_, '_>]) -> 
     ensures promise { Promise (kit_model K.Kit.knows K.Kit.allows draft.kit) (sealed (draft_model draft)) (map entry_call entries.old) (map entry_answer entries.new) }
 {
     let (mut case, count) = draft.seal();
-    for i in 0..entries.len() {
-        entries[i].answer = case.take(entries[i].call);
+    for entry in entries.iter_mut() {
+        entry.answer = case.take(entry.call);
     }
     (case, count)
 }

@@ -5,7 +5,8 @@ ghost use Rattle.kits.specs.Steps.{formulas_in};
 ghost use Rattle.cases.specs.declared.faults.CaseFault.TheVariants.{NotInTable};
 ghost use Rattle.cases.specs.Roots.{contains};
 ghost use Rattle.cases.specs.Steps.{first_unfit, first_missing, at_index, premises_objection, numbers_objection, conclusion_of, step_objection, step_answer, after_step};
-ghost use Rattle.cases.specs.Verdicts.{some_of, only_roots, verdict, verdict_number, Means, SameFormulas, root_formulas};
+ghost use Rattle.std.specs.List.{list_any};
+ghost use Rattle.cases.specs.Verdicts.{only_roots, verdict, verdict_number, Means, SameFormulas, root_formulas};
 ghost use Rattle.cases.specs.Views.{case_model, stepped_model, kit_model, step_call_model};
 
 use super::super::call::StepCall;
@@ -91,7 +92,7 @@ impl<K: Kit + Drop> Case<K> {
 
     // Whether some taken step's conclusion has only root formulas.
     fn has_refuted_roots(&self) -> bool
-        ensures { result ≡ some_of (only_roots (case_model self.now)) (stepped_model self.now).steps }
+        ensures { result ≡ list_any (only_roots (case_model self.now)) (stepped_model self.now).steps }
     {
         let roots = self.roots.sequent();
         for conclusion in self.steps.iter() {
@@ -125,26 +126,23 @@ fn rising_set(numbers: &[u16], len: usize) -> Result<Sequent, CaseFault>
 fn is_from(n: usize, low: usize, end: usize) -> bool
     ensures { result ≡ (nat_le low n && nat_lt n end) }
 {
-    low <= n && n < end
+    (low..end).contains(&n)
 }
 
 // Whether a number is from 1 to `count`.
 fn is_counted(n: usize, count: usize) -> bool
     ensures { result ≡ (nat_le 1 n && nat_le n count) }
 {
-    1 <= n && n <= count
+    (1..=count).contains(&n)
 }
 
 // The index of the first number that is not from 1 to `count`.
 fn first_missing(numbers: &[u16], count: usize) -> Option<usize>
     ensures { result ≡ first_missing count 0 numbers.now }
 {
-    for (i, number) in numbers.iter().enumerate() {
-        if !is_counted(*number as usize, count) {
-            return Some(i);
-        }
-    }
-    None
+    numbers
+        .iter()
+        .position(|number| !is_counted(*number as usize, count))
 }
 
 // The verdicts of two cases. Where they have the same root formulas, never does one hold while the other has a

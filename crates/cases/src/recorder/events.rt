@@ -30,10 +30,7 @@ impl Recorder {
     pub fn is_closed(&self) -> bool
         ensures { result ≡ is_closed (run_model self.now).back }
     {
-        match self.phase {
-            Phase::Closed(_) => true,
-            _ => false,
-        }
+        matches!(self.phase, Phase::Closed(_))
     }
 
     // Takes a state, a loop or a drop, by the phase that the run is in.

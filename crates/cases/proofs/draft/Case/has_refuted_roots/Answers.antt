@@ -5,7 +5,8 @@ use Rattle.tables.specs.declared.sequent.Sequent.{Sequent}
 use Rattle.tables.specs.Sets.{member}
 use Rattle.tables.proofs.Listed.{length_formulas}
 use Rattle.cases.specs.Steps.{nothing}
-use Rattle.cases.specs.Verdicts.{some_of, only_roots}
+use Rattle.std.specs.List.{list_any}
+use Rattle.cases.specs.Verdicts.{only_roots}
 use Rattle.cases.specs.Views.{case_model, stepped_model}
 use Rattle.cases.proofs.Goods.{good_from}
 use Rattle.cases.proofs.RootsOnly.{within_is_only_roots}
@@ -29,7 +30,7 @@ returns-then-is_within g c =
     let here = get_or-map member items i nil nothing inside in
     let taken : i < length (stepped_model t).steps = omega (arith, length-map items member) in
     let only = within_is_only_roots m (member x) (member c.sequent-roots.result) c.is_within.result few c.sequent-roots.ensures (λ k h. (good_from t.good).inside i k taken (ap (λ S. S k) here ∙ h)) tells in
-    let more = at_drop_more (λ l. some_of (only_roots m) (map member l)) items i nil inside in
+    let more = at_drop_more (λ l. list_any (only_roots m) (map member l)) items i nil inside in
     sym (sym c.loop-conclusion.invariant ∙ more ∙ or_left _ _ (only ∙ c.if-is_within.true))
 
 pub loop-conclusion-preserved : goal.loop-conclusion-preserved
@@ -47,12 +48,12 @@ loop-conclusion-preserved g c =
     let here = get_or-map member items i nil nothing inside in
     let taken : i < length (stepped_model t).steps = omega (arith, length-map items member) in
     let only = within_is_only_roots m (member x) (member c.sequent-roots.result) c.is_within.result few c.sequent-roots.ensures (λ k h. (good_from t.good).inside i k taken (ap (λ S. S k) here ∙ h)) tells in
-    let more = at_drop_more (λ l. some_of (only_roots m) (map member l)) items i nil inside in
-    sym (ap (λ b. b || some_of (only_roots m) (map member (drop (i + 1) items))) (only ∙ c.if-is_within.false)) ∙ sym more ∙ c.loop-conclusion.invariant
+    let more = at_drop_more (λ l. list_any (only_roots m) (map member l)) items i nil inside in
+    sym (ap (λ b. b || list_any (only_roots m) (map member (drop (i + 1) items))) (only ∙ c.if-is_within.false)) ∙ sym more ∙ c.loop-conclusion.invariant
 
 pub returns : goal.returns
 returns g c =
     let t = c.args.self.now in
     let items = vec_items t.steps in
     let past : length items ≤ c.loop-conclusion.conclusion-index = omega (arith, ap length c.deref-conclusion-items.ensures.value) in
-    sym (at_drop_all (λ l. some_of (only_roots (case_model t)) (map member l)) items c.loop-conclusion.conclusion-index past) ∙ c.loop-conclusion.invariant
+    sym (at_drop_all (λ l. list_any (only_roots (case_model t)) (map member l)) items c.loop-conclusion.conclusion-index past) ∙ c.loop-conclusion.invariant

@@ -1,4 +1,4 @@
-use Rattle.std.proofs.Common.{◌≡◌, map, length, take, vec_items}
+use Rattle.std.proofs.Common.{◌≡◌, map, take, vec_items}
 use Rattle.arrayvec.specs.ArrayVec.{array_vec_len}
 use Rattle.tables.specs.Sets.{member}
 use Rattle.cases.specs.Steps.{conclusion_of}

@@ -1,28 +1,21 @@
-use Rattle.std.proofs.Common.{◌≡◌, ℕ, ◌+◌, ◌<◌, ◌≤◌, Bool, cond, length, get_or, drop, vec_items, sym, ap, ◌∙◌, arith}
-use Rattle.std.proofs.lemmas.List.{at_drop_more, at_drop_all}
+use Rattle.std.proofs.Common.{ℕ, Bool, get_or, not, map, vec_items, sym, ap, ◌∙◌, rules, tests}
+use Rattle.std.proofs.lemmas.Iterator.{YieldsList-from_slice, YieldsList-from_map}
+use Rattle.std.proofs.lemmas.Iterator.Adapters.{option_map_id}
+use Rattle.std.proofs.lemmas.Iterator.Consumers.{YieldsList-at, YieldsList-from_filter, min_from_yields_List}
+use Rattle.std.specs.List.{reduce}
+use Rattle.std.specs.Prelude.{min}
 use Rattle.tables.specs.Rows.{bit}
-use Rattle.tables.specs.declared.number.Number.{Number}
-use Rattle.cases.specs.Roots.{plain, smaller, least_failing}
+use Rattle.cases.proofs.Listed.{least_is, map-filter}
 use Rattle.cases.proofs.roots.Roots.least_false.Goals as goal
-
-nil : Number
-nil = record { 0 = 0 }
-
-pub loop-number-preserved : goal.loop-number-preserved
-unfolding nil
-loop-number-preserved c =
-    let ns = vec_items c.args.self.now.numbers in
-    let p : ℕ → Bool = λ n. bit (get_or c.args.rows.now.words n 0) 0 in
-    let i = c.loop-number.number-index in
-    let o = c.loop-number.least in
-    let is = c.deref-number-items.ensures.value in
-    let inside : i < length ns = omega (arith, ap length is) in
-    let same : get_or c.deref-number-items.result.now i nil ≡ get_or ns i nil = ap (λ l. get_or l i nil) is in
-    ap (λ x. least_failing p x (plain (drop (i + 1) ns))) (c.smallest-least.ensures ∙ ap (λ t. cond t o (smaller o (get_or c.deref-number-items.result.now i nil).0)) c.holds_first.ensures ∙ ap (λ m. cond (p m.0) o (smaller o m.0)) same)
-    ∙ sym (at_drop_more (λ l. least_failing p o (plain l)) ns i nil inside) ∙ c.loop-number.invariant
 
 pub returns : goal.returns
 returns c =
     let ns = vec_items c.args.self.now.numbers in
-    let past : length ns ≤ c.loop-number.number-index = omega (arith, ap length c.deref-number-items.ensures.value) in
-    sym (at_drop_all (λ l. least_failing (λ n. bit (get_or c.args.rows.now.words n 0) 0) c.loop-number.least (plain l)) ns c.loop-number.number-index past) ∙ c.loop-number.invariant
+    let first : ℕ → Bool = λ n. bit (get_or c.args.rows.now.words n 0) 0 in
+    sym (option_map_id c.min.result)
+    ∙ min_from_yields_List _ c.min.result c.min.ensures.ran
+    (YieldsList-from_map _ (λ n. n.0)
+    (YieldsList-at c.map.ensures.source (YieldsList-from_filter _ (λ n. not (first n.0)) (YieldsList-from_slice ns (cc)) c.filter.ensures.closure (λ x b q k. search (rules, tests))))
+    c.map.ensures.closure (λ x r q k. search (rules, tests)))
+    ∙ ap (reduce min) (map-filter (λ n. not (first n)) (λ n. n.0) ns)
+    ∙ least_is first (map (λ n. n.0) ns)
