@@ -4,6 +4,7 @@ use Rattle.texts.specs.declared.faults.Refusal.{Refusal}
 use Rattle.texts.specs.declared.faults.TextFault.{TextFault}
 use Rattle.texts.specs.declared.faults.TextFault.TheVariants.{Empty, TooLong, Unexpected, Incomplete, Full}
 use Rattle.texts.specs.Faults as text
+use Rattle.texts.specs.Faults.{layer_number}
 use Rattle.kits.specs.declared.faults.KitFault.{KitFault}
 use Rattle.kits.specs.declared.faults.KitFault.TheVariants.{Unknown, NotAllowed}
 use Rattle.kits.specs.Faults as kit
@@ -16,7 +17,7 @@ use Rattle.casefile.specs.Faults.{refusal}
 
 pub record Short (r : Refusal) : Type 0 where
   pub number : r.number < 100
-  pub layer : r.layer < 10
+  pub layer : layer_number r.layer < 10
 
 text_short : (f : TextFault) → Short (text.refusal f)
 text_short Empty = record { number = lit< tt; layer = lit< tt }

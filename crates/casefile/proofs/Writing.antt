@@ -3,6 +3,7 @@ use Rattle.std.proofs.Common.{◌≡◌, ℕ, ◌+◌, ◌-◌, ◌^◌, ◌<◌
 use Rattle.std.proofs.lemmas.List.{length-append, length-take-le, length-drop, drop-drop, set_split, take_at, drop_at}
 use Rattle.std.proofs.lemmas.Fmt.{length-decimal-le}
 use Rattle.texts.specs.declared.faults.Refusal.{Refusal}
+use Rattle.texts.specs.Faults.{layer_number}
 use Rattle.casefile.specs.Buffers.{overwritten}
 use Rattle.casefile.specs.Fields.{number_field, refusal_lines}
 use Rattle.casefile.specs.Sheets.{Kept}
@@ -89,10 +90,10 @@ field_by : (key : List ℕ) (k n : ℕ) → 0 < k → n < 10 ^ k → n < 2 ^ 64 
 field_by key k n some below fits =
     omega (arith, length-append key (61 ∷ (decimal n ++ 10 ∷ [])), length-append (decimal n) (10 ∷ []), length-decimal-le k n some below fits)
 
-pub refusal_short : (line : ℕ) (r : Refusal) → r.number < 100 → r.layer < 10 → line < 100000 → r.place < 2 ^ 64 → length (refusal_lines line r) ≤ 64
+pub refusal_short : (line : ℕ) (r : Refusal) → r.number < 100 → layer_number r.layer < 10 → line < 100000 → r.place < 2 ^ 64 → length (refusal_lines line r) ≤ 64
 refusal_short line r a b c d =
     let as' = number_field (codes "refused") r.number in
-    let bs = number_field (codes "layer") r.layer in
+    let bs = number_field (codes "layer") (layer_number r.layer) in
     let cs = number_field (codes "line") line in
     let ds = number_field (codes "place") r.place in
     omega (
@@ -101,7 +102,7 @@ refusal_short line r a b c d =
       length-append bs (cs ++ ds),
       length-append cs ds,
       field_by (codes "refused") 2 r.number (lit< tt) a (omega arith),
-      field_by (codes "layer") 1 r.layer (lit< tt) b (omega arith),
+      field_by (codes "layer") 1 (layer_number r.layer) (lit< tt) b (omega arith),
       field_by (codes "line") 5 line (lit< tt) c (omega arith),
       field_by (codes "place") 20 r.place (lit< tt) (omega arith) d,
     )

@@ -1,5 +1,7 @@
 -- Which files are accepted, and what stays of a buffer. Assumes nothing.
-use Rattle.std.specs.Prelude.{◌≡◌, ℕ, ◌-◌, ◌*◌, ◌<◌, ◌≤◌, Bool, true, false, ◌&&◌, List, length, drop, ℤ, pos, negsuc, ◌==◌, nat_le, nat_lt, slice_index, slice_index_or}
+use Rattle.std.specs.Prelude.{◌≡◌, ℕ, ◌-◌, ◌*◌, ◌<◌, ◌≤◌, Bool, true, false, ◌&&◌, List, length, drop, Ok, Err, Result, ℤ, pos, negsuc, ◌==◌, nat_le, nat_lt, slice_index, slice_index_or}
+use Rattle.casefile.specs.declared.faults.SheetFault.{SheetFault}
+use Rattle.casefile.specs.declared.faults.SheetFault.TheVariants.{FileRefused, BufferTooShort, NoMemory}
 use Rattle.casefile.specs.Newlines.{newlines}
 
 -- A file is not empty, has at most 32,000 bytes and 500 lines, and its last byte is 10.
@@ -16,11 +18,6 @@ pub record LinesEnd (file : List ℕ) : Type 0 where
   pub some : 0 < length file
   pub short : length file ≤ 32000
   pub ends : slice_index_or file (length file - 1) 0 ≡ 10
-
--- a line that is passed and has no answer yet
-abbrev pub sealing : Bool → ℕ
-sealing true = 1
-sealing false = 0
 
 -- What is answered for a file and a buffer, which becomes another buffer: -22 exactly where the file is not accepted;
 -- else -21 exactly where the buffer has less than 64 bytes a line; else -100 where memory is wanting; at each of these
@@ -39,3 +36,19 @@ by_file false file xs ys r = (r ≡ negsuc 21) × (ys ≡ xs)
 
 abbrev pub Answered : List ℕ → List ℕ → List ℕ → ℤ → Type 0
 Answered file xs ys r = by_file (file_accepted file) file xs ys r
+
+-- The same, by the sheet's length or the fault.
+abbrev pub by_writing : List ℕ → List ℕ → Result ℕ SheetFault → Type 0
+by_writing xs ys (Ok n) = (n ≤ length xs) × Kept xs ys n
+by_writing xs ys (Err f) = (f ≡ NoMemory) × (ys ≡ xs)
+
+abbrev pub by_room : Bool → List ℕ → List ℕ → Result ℕ SheetFault → Type 0
+by_room true xs ys r = (r ≡ Err BufferTooShort) × (ys ≡ xs)
+by_room false xs ys r = by_writing xs ys r
+
+abbrev pub by_acceptance : Bool → List ℕ → List ℕ → List ℕ → Result ℕ SheetFault → Type 0
+by_acceptance true file xs ys r = by_room (nat_lt (length xs) (64 * newlines file)) xs ys r
+by_acceptance false file xs ys r = (r ≡ Err FileRefused) × (ys ≡ xs)
+
+abbrev pub Written : List ℕ → List ℕ → List ℕ → Result ℕ SheetFault → Type 0
+Written file xs ys r = by_acceptance (file_accepted file) file xs ys r

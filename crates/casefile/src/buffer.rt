@@ -3,6 +3,7 @@ ghost use Rattle.std.specs.Prelude.{◌≡◌, ◌+◌, ◌<◌, ◌≤◌, [], 
 ghost use Rattle.casefile.specs.Buffers.{overwritten};
 ghost use Rattle.casefile.specs.Fields.{number_field, refusal_lines};
 
+use itoa::Buffer;
 use texts::Refusal;
 
 // Writes bytes from `at` on, and answers the offset behind them.
@@ -32,11 +33,7 @@ pub(crate) fn put_number(out: &mut [u8], at: usize, number: usize) -> usize
     ensures value { result ≡ at + length (decimal number) }
     ensures after { out.new ≡ overwritten out.old at (decimal number) }
 {
-    if number < 10 {
-        return put_byte(out, at, b'0' + number as u8);
-    }
-    let next = put_number(out, at, number / 10);
-    put_byte(out, next, b'0' + (number % 10) as u8)
+    put(out, at, Buffer::new().format(number).as_bytes())
 }
 
 // Writes a line of a sheet: a key, `=`, a number, and byte 10.
@@ -58,7 +55,7 @@ pub(crate) fn put_refusal(out: &mut [u8], at: usize, line: usize, refusal: Refus
     ensures after { out.new ≡ overwritten out.old at (refusal_lines line refusal) }
 {
     let layer = put_field(out, at, b"refused", refusal.number);
-    let number = put_field(out, layer, b"layer", refusal.layer);
+    let number = put_field(out, layer, b"layer", refusal.layer.into());
     let place = put_field(out, number, b"line", line);
     put_field(out, place, b"place", refusal.place)
 }

@@ -4,8 +4,8 @@ ghost use Rattle.casefile.specs.Newlines.{newlines};
 ghost use Rattle.casefile.specs.Sheets.{LinesEnd};
 
 use super::faults::LineFault;
-use super::lines::{Line, Lines, find};
-use super::values::{letters, nothing, number, number_at};
+use super::lines::{Line, Lines};
+use super::values::{Reader, letters, nothing, number};
 use cases::{Call, Draft, Entry, StepCall};
 use kits::Kit;
 use std::alloc::{AllocError, Global};
@@ -34,7 +34,7 @@ impl Numbers {
         self.numbers.len()
     }
 
-    fn push(&mut self, number: u16) {
+    pub(crate) fn push(&mut self, number: u16) {
         if self.numbers.len() < MOST_NUMBERS {
             self.numbers.push_reserved(number);
         }
@@ -51,7 +51,7 @@ pub struct StepLine {
     end: usize,
 }
 
-// A line as it was read: the call that it stands for, or why it is refused.
+// A line as it was read: what stands for its call.
 #[derive(Clone, Copy)]
 pub enum Evidence<'a> {
     Form(&'a [u8]),
@@ -60,48 +60,6 @@ pub enum Evidence<'a> {
     Loop(usize),
     Drop,
     Verdict,
-    Refused(LineFault),
-}
-
-// What a list of numbers ends with.
-#[derive(Clone, Copy)]
-enum Stop {
-    Semicolon,
-    Value,
-}
-
-// Whether a list ends at an offset.
-fn stops(value: &[u8], at: usize, stop: Stop) -> bool {
-    match stop {
-        Stop::Semicolon => at < value.len() && value[at] == b';',
-        Stop::Value => at >= value.len(),
-    }
-}
-
-// Reads a list of numbers with commas, which may be empty: the offset where it stops.
-fn list_at(
-    value: &[u8],
-    start: usize,
-    stop: Stop,
-    numbers: &mut Numbers,
-) -> Result<usize, LineFault>
-    ensures { IfOk result (λ at. start ≤ length value.now → at ≤ length value.now) }
-{
-    if stops(value, start, stop) {
-        return Ok(start);
-    }
-    let mut at = start;
-    loop {
-        let (number, end) = number_at(value, at)?;
-        numbers.push(number);
-        if stops(value, end, stop) {
-            return Ok(end);
-        }
-        if end >= value.len() || value[end] != b',' {
-            return Err(LineFault::Value(end));
-        }
-        at = end + 1;
-    }
 }
 
 // Reads the value of a step line: name;principal;conclusion;premises. A name that the kit does not have is rule 0.
@@ -110,19 +68,16 @@ fn step_line<K: Kit + Drop>(
     value: &[u8],
     numbers: &mut Numbers,
 ) -> Result<StepLine, LineFault> {
-    let name = find(value, 0, b';');
-    if name == 0 || name >= value.len() {
-        return Err(LineFault::Value(name));
-    }
-    let rule = draft.find(&value[..name]).unwrap_or(0);
-    let (principal, at) = number_at(value, name + 1)?;
-    if at >= value.len() || value[at] != b';' {
-        return Err(LineFault::Value(at));
-    }
+    let mut reader = Reader::new(value);
+    let rule = draft.find(reader.name()?).unwrap_or(0);
+    reader.pass(b';')?;
+    let principal = reader.number()?;
+    reader.pass(b';')?;
     let conclusion = numbers.len();
-    let at = list_at(value, at + 1, Stop::Semicolon, numbers)?;
+    reader.numbers(Some(b';'), numbers)?;
+    reader.pass(b';')?;
     let premises = numbers.len();
-    list_at(value, at + 1, Stop::Value, numbers)?;
+    reader.numbers(None, numbers)?;
     Ok(StepLine {
         rule,
         principal,
@@ -135,10 +90,10 @@ fn step_line<K: Kit + Drop>(
 // Reads a line after sealing.
 fn read_line<'a, K: Kit + Drop>(
     draft: &Draft<K>,
-    line: Line<'a>,
+    line: Result<Line<'a>, LineFault>,
     numbers: &mut Numbers,
 ) -> Result<Evidence<'a>, LineFault> {
-    match line {
+    match line? {
         Line::Form(text) => Ok(Evidence::Form(text)),
         Line::Step(value) => Ok(Evidence::Step(step_line(draft, value, numbers)?)),
         Line::State(value) => Ok(Evidence::State(letters(value)?)),
@@ -160,18 +115,14 @@ pub(crate) fn read_lines<'a, K: Kit + Drop>(
     draft: &Draft<K>,
     lines: &mut Lines<'a>,
     numbers: &mut Numbers,
-    read: &mut Vec<Evidence<'a>>,
+    read: &mut Vec<Result<Evidence<'a>, LineFault>>,
 )
     requires ended { LinesEnd lines.old.file.now }
     requires room { vec_len read.old + newlines (drop lines.old.at lines.old.file.now) ≤ vec_capacity read.old }
     ensures few { vec_len read.new ≤ vec_len read.old + newlines (drop lines.old.at lines.old.file.now) }
 {
     while let Some(line) = lines.next_line() {
-        let evidence = match read_line(draft, line, numbers) {
-            Ok(evidence) => evidence,
-            Err(fault) => Evidence::Refused(fault),
-        };
-        read.push_reserved(evidence);
+        read.push_reserved(read_line(draft, line, numbers));
     }
 }
 
@@ -185,35 +136,34 @@ fn part(numbers: &[u16], start: usize, end: usize) -> &[u16] {
 }
 
 // The call that a line stands for.
-fn call_of<'t, 'n>(evidence: Evidence<'t>, numbers: &'n [u16]) -> Option<Call<'t, 'n>> {
+fn call_of<'t, 'n>(evidence: Evidence<'t>, numbers: &'n [u16]) -> Call<'t, 'n> {
     match evidence {
-        Evidence::Form(text) => Some(Call::Form(text)),
-        Evidence::Step(step) => Some(Call::Step(StepCall {
+        Evidence::Form(text) => Call::Form(text),
+        Evidence::Step(step) => Call::Step(StepCall {
             rule: step.rule,
             principal: step.principal,
             conclusion: part(numbers, step.conclusion, step.premises),
             premises: part(numbers, step.premises, step.end),
-        })),
-        Evidence::State(letters) => Some(Call::State(letters)),
-        Evidence::Loop(back) => Some(Call::Loop(back)),
-        Evidence::Drop => Some(Call::Drop),
-        Evidence::Verdict => Some(Call::Verdict),
-        Evidence::Refused(_) => None,
+        }),
+        Evidence::State(letters) => Call::State(letters),
+        Evidence::Loop(back) => Call::Loop(back),
+        Evidence::Drop => Call::Drop,
+        Evidence::Verdict => Call::Verdict,
     }
 }
 
 // The entries of the record that the lines stand for, with no answers yet.
 pub(crate) fn enter_calls<'t, 'n>(
-    read: &[Evidence<'t>],
+    read: &[Result<Evidence<'t>, LineFault>],
     numbers: &'n [u16],
     entries: &mut Vec<Entry<'t, 'n>>,
 )
     requires { vec_len entries.old + length read.now ≤ vec_capacity entries.old }
 {
-    for evidence in read {
-        if let Some(call) = call_of(*evidence, numbers) {
+    for line in read {
+        if let Ok(evidence) = *line {
             entries.push_reserved(Entry {
-                call,
+                call: call_of(evidence, numbers),
                 answer: Ok(0),
             });
         }

@@ -8,8 +8,6 @@ mod lines;
 mod sheet;
 mod values;
 
-pub use faults::LineFault;
+pub use faults::{BUFFER_TOO_SHORT, FILE_REFUSED, LineFault, NO_MEMORY, SheetFault};
 pub use lines::{Line, Lines};
-pub use sheet::{
-    BUFFER_TOO_SHORT, FILE_REFUSED, LINE_ROOM, LONGEST_FILE, MOST_LINES, NO_MEMORY, sorvigzna_sheet,
-};
+pub use sheet::{LINE_ROOM, LONGEST_FILE, MOST_LINES, sorvigzna_sheet, write_sheet};

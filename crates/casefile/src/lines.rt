@@ -1,6 +1,8 @@
 // The lines of a case file.
-ghost use Rattle.std.specs.Prelude.{◌≡◌, ℕ, ◌+◌, ◌-◌, ◌<◌, ◌≤◌, true, length, drop, is_some, if◌then◌else◌, ◌≢◌, nat_lt, slice_index};
+ghost use Rattle.std.specs.Prelude.{◌≡◌, ℕ, ◌+◌, ◌-◌, ◌<◌, ◌≤◌, true, length, drop, is_some, if◌then◌else◌, ◌==◌, nat_lt, position};
 ghost use Rattle.casefile.specs.Newlines.{newlines};
+
+use super::faults::LineFault;
 
 // A line by its key; the value is the part of the file after the `=`.
 #[derive(Clone, Copy)]
@@ -17,49 +19,38 @@ pub enum Line<'a> {
     Loop(&'a [u8]),
     Drop(&'a [u8]),
     Verdict(&'a [u8]),
-    // No `=`, or another key.
-    Unknown,
 }
 
 impl<'a> Line<'a> {
-    // A line without its last byte.
-    pub fn parse(line: &'a [u8]) -> Line<'a> {
-        let end = find(line, 0, b'=');
-        if end >= line.len() {
-            return Line::Unknown;
-        }
+    // A line without its last byte. Where it has no `=`, or another key, no line is due.
+    pub fn parse(line: &'a [u8]) -> Result<Line<'a>, LineFault> {
+        let Some(end) = find(line, b'=') else {
+            return Err(LineFault::NotDue);
+        };
         let value = &line[end + 1..];
-        match &line[0..end] {
-            b"kit" => Line::Kit(value),
-            b"init" => Line::Init(value),
-            b"inv" => Line::Inv(value),
-            b"trans" => Line::Trans(value),
-            b"prop" => Line::Prop(value),
-            b"seal" => Line::Seal(value),
-            b"form" => Line::Form(value),
-            b"step" => Line::Step(value),
-            b"state" => Line::State(value),
-            b"loop" => Line::Loop(value),
-            b"drop" => Line::Drop(value),
-            b"verdict" => Line::Verdict(value),
-            _ => Line::Unknown,
+        match &line[..end] {
+            b"kit" => Ok(Line::Kit(value)),
+            b"init" => Ok(Line::Init(value)),
+            b"inv" => Ok(Line::Inv(value)),
+            b"trans" => Ok(Line::Trans(value)),
+            b"prop" => Ok(Line::Prop(value)),
+            b"seal" => Ok(Line::Seal(value)),
+            b"form" => Ok(Line::Form(value)),
+            b"step" => Ok(Line::Step(value)),
+            b"state" => Ok(Line::State(value)),
+            b"loop" => Ok(Line::Loop(value)),
+            b"drop" => Ok(Line::Drop(value)),
+            b"verdict" => Ok(Line::Verdict(value)),
+            _ => Err(LineFault::NotDue),
         }
     }
 }
 
-// The offset of the first such byte from `from` on, or the length.
-pub(crate) fn find(bytes: &[u8], from: usize, byte: u8) -> usize
-    requires { from ≤ length bytes.now }
-    ensures within { (result ≤ length bytes.now) × (from ≤ result) }
-    ensures before { (k : ℕ) → from ≤ k → k < result → slice_index bytes.now k ≢ byte }
-    ensures found { result < length bytes.now → slice_index bytes.now result ≡ byte }
+// The offset of the first such byte.
+pub(crate) fn find(bytes: &[u8], byte: u8) -> Option<usize>
+    ensures { result ≡ position (λ b. b == byte) bytes.now }
 {
-    for at in from..bytes.len() {
-        if bytes[at] == byte {
-            return at;
-        }
-    }
-    bytes.len()
+    bytes.iter().position(|b| *b == byte)
 }
 
 // Walks over the bytes of a file, line by line, and copies none.
@@ -102,21 +93,23 @@ impl<'a> Lines<'a> {
     }
 
     // Passes the next line, and answers it; nothing at the end of the file.
-    pub fn next_line(&mut self) -> Option<Line<'a>>
+    pub fn next_line(&mut self) -> Option<Result<Line<'a>, LineFault>>
         ensures file { self.new.file.now ≡ self.old.file.now }
         ensures some { is_some result ≡ nat_lt self.old.at (length self.old.file.now) }
         ensures passed { newlines (drop self.new.at self.old.file.now) ≡ newlines (drop self.old.at self.old.file.now) - 1 }
         ensures counted { self.new.line ≡ (if is_some result then self.old.line + 1 else self.old.line) }
         ensures moved { is_some result ≡ true → self.old.at < self.new.at }
     {
-        let file = self.file;
-        let start = self.at;
-        if start >= file.len() {
+        let rest = self.rest();
+        if rest.is_empty() {
             return None;
         }
-        let end = find(file, start, b'\n');
-        self.at = if end < file.len() { end + 1 } else { end };
+        let (line, passed) = match find(rest, b'\n') {
+            Some(len) => (&rest[..len], len + 1),
+            None => (rest, rest.len()),
+        };
+        self.at += passed;
         self.line += 1;
-        Some(Line::parse(&file[start..end]))
+        Some(Line::parse(line))
     }
 }

@@ -1,18 +1,22 @@
 // The sheet of a case file.
-ghost use Rattle.std.specs.Prelude.{◌≡◌, ◌+◌, ◌*◌, ◌<◌, ◌≤◌, length, drop, MatchResult};
+ghost use Rattle.std.specs.Prelude.{◌≡◌, ◌+◌, ◌*◌, ◌<◌, ◌≤◌, length, drop, IfOk, MatchResult};
+ghost use Rattle.std.specs.ControlFlow.{MatchControlFlow};
 ghost use Rattle.casefile.specs.Newlines.{newlines};
-ghost use Rattle.casefile.specs.Sheets.{file_accepted, Kept, LinesEnd, sealing, Answered};
+ghost use Rattle.casefile.specs.Sheets.{file_accepted, Kept, LinesEnd, Answered, Written};
 
 use super::buffer::{put, put_field, put_refusal};
 use super::evidence::{Evidence, Numbers, enter_calls, read_lines};
-use super::faults::LineFault;
+use super::faults::{LineFault, SheetFault};
 use super::lines::{Line, Lines};
-use super::values::{Choice, kit_choice, nothing};
-use cases::{CallFault, Draft, Entry, record};
+use super::values::{Choice, nothing};
+use cases::{ClauseKind, Draft, Entry, record};
 use kits::{Kit, Pair};
 use sequents::Sequents;
 use std::alloc::{AllocError, Global};
+use std::ops::ControlFlow;
+use std::slice::Iter;
 use tables::Number;
+use texts::Refusal;
 use units::Units;
 
 // The longest file, in bytes and in lines.
@@ -23,24 +27,11 @@ pub const MOST_LINES: usize = 500;
 // How much room a line's part of the sheet may take.
 pub const LINE_ROOM: usize = 64;
 
-// What is answered in place of the sheet's length.
-pub const FILE_REFUSED: i64 = -22;
-
-pub const BUFFER_TOO_SHORT: i64 = -21;
-
-pub const NO_MEMORY: i64 = -100;
-
 // How many lines end in the bytes.
 fn count_lines(file: &[u8]) -> usize
     ensures { result ≡ newlines file.now }
 {
-    let mut count = 0;
-    for byte in file {
-        if *byte == b'\n' {
-            count += 1;
-        }
-    }
-    count
+    file.iter().filter(|byte| **byte == b'\n').count()
 }
 
 // Whether a file is not empty, not too long, and ends with a line.
@@ -87,9 +78,12 @@ impl Answer {
             Answer::Verdict(_) => b"verdict",
         }
     }
+}
 
-    fn number(&self) -> usize {
-        match *self {
+// The number that a line is answered.
+impl From<Answer> for usize {
+    fn from(answer: Answer) -> usize {
+        match answer {
             Answer::Init(n) | Answer::Inv(n) | Answer::Trans(n) | Answer::Prop(n) => n.0 as usize,
             Answer::Seal(n)
             | Answer::Form(n)
@@ -110,7 +104,7 @@ fn put_answer(out: &mut [u8], at: usize, answer: Answer) -> usize
     ensures kept { Kept out.old out.new result }
 {
     let key = answer.key();
-    put_field(out, at, key, answer.number())
+    put_field(out, at, key, usize::from(answer))
 }
 
 // Writes a kit's letter as the answer of the line that chose it.
@@ -130,7 +124,7 @@ fn put_fault(out: &mut [u8], at: usize, line: usize, fault: LineFault) -> usize
     ensures ahead { at ≤ result }
     ensures kept { Kept out.old out.new result }
 {
-    put_refusal(out, at, line, fault.refusal())
+    put_refusal(out, at, line, Refusal::from(fault))
 }
 
 // A line that was due and taken before sealing.
@@ -142,9 +136,10 @@ enum Taken {
 // Takes a line before sealing. After a property, `seal` alone is due.
 fn take_line<K: Kit + Drop>(
     draft: &mut Draft<K>,
-    line: Line,
+    line: Result<Line, LineFault>,
     property: bool,
 ) -> Result<Taken, LineFault> {
+    let line = line?;
     if let Line::Seal(value) = line {
         nothing(value)?;
         return Ok(Taken::Seal);
@@ -152,41 +147,30 @@ fn take_line<K: Kit + Drop>(
     if property {
         return Err(LineFault::NotDue);
     }
-    match line {
-        Line::Init(text) => Ok(Taken::Clause(Answer::Init(draft.clause(1, text)?))),
-        Line::Inv(text) => Ok(Taken::Clause(Answer::Inv(draft.clause(2, text)?))),
-        Line::Trans(text) => Ok(Taken::Clause(Answer::Trans(draft.clause(3, text)?))),
-        Line::Prop(text) => Ok(Taken::Clause(Answer::Prop(draft.clause(4, text)?))),
-        _ => Err(LineFault::NotDue),
-    }
+    let answer = match line {
+        Line::Init(text) => Answer::Init(draft.add(ClauseKind::Init, text)?),
+        Line::Inv(text) => Answer::Inv(draft.add(ClauseKind::Invariant, text)?),
+        Line::Trans(text) => Answer::Trans(draft.add(ClauseKind::Transition, text)?),
+        Line::Prop(text) => Answer::Prop(draft.add(ClauseKind::Property, text)?),
+        _ => return Err(LineFault::NotDue),
+    };
+    Ok(Taken::Clause(answer))
 }
 
-// What a line is answered, by the answer to its call.
-fn answer_line(evidence: Evidence, answer: Result<usize, CallFault>) -> Result<Answer, LineFault> {
-    match evidence {
-        Evidence::Form(_) => Ok(Answer::Form(answer?)),
-        Evidence::Step(_) => Ok(Answer::Step(answer?)),
-        Evidence::State(_) => Ok(Answer::State(answer?)),
-        Evidence::Loop(_) => Ok(Answer::Loop(answer?)),
-        Evidence::Drop => Ok(Answer::Drop(answer?)),
-        Evidence::Verdict => Ok(Answer::Verdict(answer?)),
-        Evidence::Refused(fault) => Err(fault),
-    }
-}
-
-// Takes the lines before sealing: the offset in the sheet, and whether the draft is to be sealed.
+// Takes the lines before sealing. What goes on is the offset in the sheet at which the sealing is answered; where the
+// draft is not sealed, the sheet ends at the offset that breaks.
 fn draft_lines<K: Kit + Drop>(
     draft: &mut Draft<K>,
     lines: &mut Lines,
     out: &mut [u8],
     start: usize,
-) -> (usize, bool)
+) -> ControlFlow<usize, usize>
     requires ended { LinesEnd lines.old.file.now }
     requires room { start + 64 * newlines (drop lines.old.at lines.old.file.now) ≤ length out.old }
     ensures file { lines.new.file.now ≡ lines.old.file.now }
-    ensures room { result.0 + 64 * (sealing result.1 + newlines (drop lines.new.at lines.old.file.now)) ≤ start + 64 * newlines (drop lines.old.at lines.old.file.now) }
-    ensures ahead { start ≤ result.0 }
-    ensures kept { Kept out.old out.new result.0 }
+    ensures room { MatchControlFlow result (λ at. at + 64 * (1 + newlines (drop lines.new.at lines.old.file.now)) ≤ start + 64 * newlines (drop lines.old.at lines.old.file.now)) (λ at. at ≤ start + 64 * newlines (drop lines.old.at lines.old.file.now)) }
+    ensures ahead { MatchControlFlow result (λ at. start ≤ at) (λ at. start ≤ at) }
+    ensures kept { MatchControlFlow result (λ at. Kept out.old out.new at) (λ at. Kept out.old out.new at) }
 {
     let mut at = start;
     let mut property = false;
@@ -196,11 +180,28 @@ fn draft_lines<K: Kit + Drop>(
                 property = matches!(answer, Answer::Prop(_));
                 at = put_answer(out, at, answer);
             }
-            Ok(Taken::Seal) => return (at, true),
-            Err(fault) => return (put_fault(out, at, lines.line(), fault), false),
+            Ok(Taken::Seal) => return ControlFlow::Continue(at),
+            Err(fault) => return ControlFlow::Break(put_fault(out, at, lines.line(), fault)),
         }
     }
-    (at, false)
+    ControlFlow::Break(at)
+}
+
+// What a line is answered, by the answers to the calls of the lines that are left.
+fn answer_line(
+    line: Result<Evidence, LineFault>,
+    answers: &mut Iter<'_, Entry<'_, '_>>,
+) -> Result<Answer, LineFault> {
+    let evidence = line?;
+    let answer = answers.next().map_or(Ok(0), |entry| entry.answer)?;
+    Ok(match evidence {
+        Evidence::Form(_) => Answer::Form(answer),
+        Evidence::Step(_) => Answer::Step(answer),
+        Evidence::State(_) => Answer::State(answer),
+        Evidence::Loop(_) => Answer::Loop(answer),
+        Evidence::Drop => Answer::Drop(answer),
+        Evidence::Verdict => Answer::Verdict(answer),
+    })
 }
 
 // Writes the answers of the lines after sealing, whose entries come in the same order: the length of the sheet.
@@ -208,7 +209,7 @@ fn put_evidence(
     out: &mut [u8],
     start: usize,
     passed: usize,
-    read: &[Evidence],
+    read: &[Result<Evidence, LineFault>],
     entries: &[Entry],
 ) -> usize
     requires room { start + 64 * length read.now ≤ length out.old }
@@ -218,16 +219,9 @@ fn put_evidence(
     ensures kept { Kept out.old out.new result }
 {
     let mut at = start;
-    let mut next: usize = 0;
-    for i in 0..read.len() {
-        let answer = match entries.get(next) {
-            Some(entry) => entry.answer,
-            None => Ok(0),
-        };
-        if !matches!(read[i], Evidence::Refused(_)) {
-            next = next.saturating_add(1);
-        }
-        at = match answer_line(read[i], answer) {
+    let mut answers = entries.iter();
+    for (i, line) in read.iter().enumerate() {
+        at = match answer_line(*line, &mut answers) {
             Ok(answer) => put_answer(out, at, answer),
             Err(fault) => put_fault(out, at, passed + i + 1, fault),
         };
@@ -252,10 +246,10 @@ fn kit_sheet<K: Kit + Drop>(
     let mut read = Vec::with_capacity(heap, most)?;
     let mut entries = Vec::with_capacity(heap, most)?;
     let at = put_letter(out, K::LETTER);
-    let (at, sealing) = draft_lines(&mut draft, lines, out, at);
-    if !sealing {
-        return Ok(at);
-    }
+    let at = match draft_lines(&mut draft, lines, out, at) {
+        ControlFlow::Continue(at) => at,
+        ControlFlow::Break(len) => return Ok(len),
+    };
     let passed = lines.line();
     read_lines(&draft, lines, &mut numbers, &mut read);
     enter_calls(read.as_slice(), numbers.as_slice(), &mut entries);
@@ -265,9 +259,9 @@ fn kit_sheet<K: Kit + Drop>(
 }
 
 // The kit that the first line of a file chooses.
-fn first_line(line: Line) -> Result<Choice, LineFault> {
-    match line {
-        Line::Kit(value) => kit_choice(value),
+fn first_line(line: Result<Line, LineFault>) -> Result<Choice, LineFault> {
+    match line? {
+        Line::Kit(value) => Choice::try_from(value),
         _ => Err(LineFault::NotDue),
     }
 }
@@ -298,20 +292,28 @@ fn file_sheet(file: &[u8], out: &mut [u8], heap: Global) -> Result<usize, AllocE
     }
 }
 
-// Writes the sheet of a case file into a buffer: its length, or a negative number. The buffer past the sheet stays
-// as it was, and all of it where a negative number is answered.
+// Writes the sheet of a case file into a buffer: its length, or why there is none. The buffer past the sheet stays as
+// it was, and all of it where there is none.
+pub fn write_sheet(file: &[u8], out: &mut [u8], heap: Global) -> Result<usize, SheetFault>
+    ensures written { Written file.now out.old out.new result }
+    ensures within { IfOk result (λ n. n ≤ length out.new) }
+{
+    if !accepted(file) {
+        return Err(SheetFault::FileRefused);
+    }
+    if out.len() < LINE_ROOM * count_lines(file) {
+        return Err(SheetFault::BufferTooShort);
+    }
+    Ok(file_sheet(file, out, heap)?)
+}
+
+// The same for a caller in C: the sheet's length, or a negative number.
 #[unsafe(no_mangle)]
 pub extern "C" fn sorvigzna_sheet(file: &[u8], out: &mut [u8], heap: Global) -> i64
     ensures { Answered file.now out.old out.new result }
 {
-    if !accepted(file) {
-        return FILE_REFUSED;
-    }
-    if out.len() < LINE_ROOM * count_lines(file) {
-        return BUFFER_TOO_SHORT;
-    }
-    match file_sheet(file, out, heap) {
+    match write_sheet(file, out, heap) {
         Ok(len) => len as i64,
-        Err(_) => NO_MEMORY,
+        Err(fault) => fault.into(),
     }
 }

@@ -1,7 +1,9 @@
 // Values of lines that are no formula texts.
-ghost use Rattle.std.specs.Prelude.{◌≡◌, ◌<◌, ◌≤◌, true, length, IfOk};
+ghost use Rattle.std.specs.Prelude.{◌≡◌, ◌<◌, ◌≤◌, length, IfOk};
 
+use super::evidence::Numbers;
 use super::faults::LineFault;
+use super::lines::find;
 use kits::{Kit, Pair};
 use sequents::Sequents;
 use units::Units;
@@ -15,32 +17,26 @@ pub enum Choice {
 }
 
 // A kit's letter, alone.
-pub(crate) fn kit_choice(value: &[u8]) -> Result<Choice, LineFault> {
-    let Some(letter) = value.first().copied() else {
-        return Err(LineFault::Value(0));
-    };
-    let choice = if letter == <Sequents as Kit>::LETTER {
-        Choice::Sequents
-    } else if letter == <Units as Kit>::LETTER {
-        Choice::Units
-    } else if letter == <Pair<Sequents, Units> as Kit>::LETTER {
-        Choice::Both
-    } else {
-        return Err(LineFault::Value(0));
-    };
-    if value.len() > 1 {
-        return Err(LineFault::Value(1));
+impl TryFrom<&[u8]> for Choice {
+    type Error = LineFault;
+
+    fn try_from(value: &[u8]) -> Result<Choice, LineFault> {
+        let choice = match value.first().copied() {
+            Some(letter) if letter == <Sequents as Kit>::LETTER => Choice::Sequents,
+            Some(letter) if letter == <Units as Kit>::LETTER => Choice::Units,
+            Some(letter) if letter == <Pair<Sequents, Units> as Kit>::LETTER => Choice::Both,
+            _ => return Err(LineFault::Value(0)),
+        };
+        if value.len() > 1 {
+            return Err(LineFault::Value(1));
+        }
+        Ok(choice)
     }
-    Ok(choice)
 }
 
 // No value.
 pub(crate) fn nothing(value: &[u8]) -> Result<(), LineFault> {
-    if value.is_empty() {
-        Ok(())
-    } else {
-        Err(LineFault::Value(0))
-    }
+    Reader::new(value).end()
 }
 
 // Letters, in any order: a word with their bits set.
@@ -57,32 +53,103 @@ pub(crate) fn letters(value: &[u8]) -> Result<u32, LineFault> {
 
 // A number of one to four digits without leading zeros, alone.
 pub(crate) fn number(value: &[u8]) -> Result<usize, LineFault> {
-    let (number, end) = number_at(value, 0)?;
-    if end < value.len() {
-        return Err(LineFault::Value(end));
-    }
+    let mut reader = Reader::new(value);
+    let number = reader.number()?;
+    reader.end()?;
     Ok(number as usize)
 }
 
-// The number that begins at an offset, and the offset behind it.
-pub(crate) fn number_at(value: &[u8], start: usize) -> Result<(u16, usize), LineFault>
-    ensures { IfOk result (λ p. (start < p.1) × (p.1 ≤ length value.now)) }
-{
-    let mut number: u16 = 0;
-    let mut at = start;
-    while at < value.len() && goes_on(value[at], at - start, number) {
-        number = number * 10 + (value[at] - b'0') as u16;
-        at += 1;
-    }
-    if at == start {
-        return Err(LineFault::Value(start));
-    }
-    Ok((number, at))
+// A value that is read from its front, up to an offset.
+#[derive(Drop)]
+pub(crate) struct Reader<'a> {
+    value: &'a [u8],
+    at: usize,
+    ghost inside: { at ≤ length value.now },
 }
 
-// Whether a byte goes on with a number of which some digits are read: a digit, not the fifth, and none behind a 0.
-fn goes_on(byte: u8, digits: usize, number: u16) -> bool
-    ensures { result ≡ true → (48 ≤ byte) × (byte ≤ 57) × (digits < 4) }
-{
-    (digits == 0 || digits < 4 && number > 0) && byte >= b'0' && byte <= b'9'
+impl<'a> Reader<'a> {
+    pub(crate) fn new(value: &'a [u8]) -> Reader<'a> {
+        Reader { value, at: 0 }
+    }
+
+    // The byte that comes next, if there is one.
+    fn peek(&self) -> Option<u8> {
+        self.value.get(self.at).copied()
+    }
+
+    // The fault where another byte was wanted next, or none.
+    fn fault(&self) -> LineFault {
+        LineFault::Value(self.at)
+    }
+
+    // Passes a byte that is wanted next.
+    pub(crate) fn pass(&mut self, byte: u8) -> Result<(), LineFault>
+        ensures value { self.new.value.now ≡ self.old.value.now }
+        ensures moved { IfOk result (λ _. self.old.at < self.new.at) }
+    {
+        if self.value.get(self.at).copied() != Some(byte) {
+            return Err(self.fault());
+        }
+        self.at += 1;
+        Ok(())
+    }
+
+    // The end of the value, which is wanted next.
+    pub(crate) fn end(&self) -> Result<(), LineFault> {
+        match self.peek() {
+            None => Ok(()),
+            Some(_) => Err(self.fault()),
+        }
+    }
+
+    // A name: the bytes before the next semicolon, one or more.
+    pub(crate) fn name(&mut self) -> Result<&'a [u8], LineFault> {
+        let rest = &self.value[self.at..];
+        let len = find(rest, b';').unwrap_or(rest.len());
+        if len == 0 {
+            return Err(self.fault());
+        }
+        self.at += len;
+        Ok(&rest[..len])
+    }
+
+    // A number of one to four digits without leading zeros.
+    pub(crate) fn number(&mut self) -> Result<u16, LineFault>
+        ensures value { self.new.value.now ≡ self.old.value.now }
+        ensures moved { IfOk result (λ _. self.old.at < self.new.at) }
+    {
+        let rest = &self.value[self.at..];
+        let mut number: u16 = 0;
+        let mut digits: usize = 0;
+        for byte in &rest[..rest.len().min(4)] {
+            if !byte.is_ascii_digit() || digits > 0 && number == 0 {
+                break;
+            }
+            number = number * 10 + (*byte - b'0') as u16;
+            digits += 1;
+        }
+        if digits == 0 {
+            return Err(self.fault());
+        }
+        self.at += digits;
+        Ok(number)
+    }
+
+    // Numbers with commas between them, or none, up to a byte that ends them or to the end of the value.
+    pub(crate) fn numbers(
+        &mut self,
+        end: Option<u8>,
+        numbers: &mut Numbers,
+    ) -> Result<(), LineFault> {
+        if self.peek() == end {
+            return Ok(());
+        }
+        loop {
+            numbers.push(self.number()?);
+            if self.peek() == end {
+                return Ok(());
+            }
+            self.pass(b',')?;
+        }
+    }
 }

@@ -4,7 +4,7 @@
 ghost use Rattle.std.specs.Prelude.{◌≡◌, ◌≤◌, length, take, Decides};
 
 use anyhow::anyhow;
-use casefile::{LINE_ROOM, MOST_LINES, sorvigzna_sheet};
+use casefile::{LINE_ROOM, MOST_LINES, write_sheet};
 use std::fs;
 
 // The examples: NAME.case is a case file and NAME.sheet its sheet.
@@ -20,16 +20,17 @@ fn is_stored(buffer: &[u8], len: usize, stored: &[u8]) -> bool
 
 fn main(rt: HostRuntime) -> anyhow::Result<()> {
     let heap = rt.alloc();
-    let mut sheet = vec![in heap; 0u8; LINE_ROOM * MOST_LINES]?;
+    let mut buffer = vec![in heap; 0u8; LINE_ROOM * MOST_LINES]?;
+    let sheet = buffer.as_mut_slice();
     let mut differing = false;
     for name in NAMES {
         let file = fs::read(&rt, format!(in heap; "{name}.case")?)?;
         let stored = fs::read(&rt, format!(in heap; "{name}.sheet")?)?;
-        let answer = sorvigzna_sheet(file.as_slice(), sheet.as_mut_slice(), heap);
-        if answer >= 0
-            && answer as usize <= sheet.len()
-            && is_stored(sheet.as_slice(), answer as usize, stored.as_slice())
-        {
+        let as_stored = match write_sheet(file.as_slice(), sheet, heap) {
+            Ok(len) => is_stored(sheet, len, stored.as_slice()),
+            Err(_) => false,
+        };
+        if as_stored {
             println!(rt; "{name}: as stored")?;
         } else {
             println!(rt; "{name}: differs")?;

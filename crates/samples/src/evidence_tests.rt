@@ -4,11 +4,12 @@ ghost use Rattle.kits.specs.Names.{lookup};
 ghost use Rattle.std.proofs.Common.{rules};
 
 use super::tests::gives;
-use cases::{Call, Draft, Entry, StepCall, record, verdicts};
-use kits::{Judgement, Kit, Pair, Step};
+use cases::{Call, CallFault, Draft, Entry, StepCall, record, verdicts};
+use kits::{Kit, KitFault, Pair, Step};
 use sequents::Sequents;
 use std::test::Fail;
 use tables::{Sequent, Table};
+use texts::Refusal;
 use units::Units;
 
 const EVIDENCE: [(&[u8], &[u8]); 16] = [
@@ -106,12 +107,12 @@ fn evidence(rt: HostRuntime) -> Result<(), Fail> {
 type Told = (usize, usize, usize);
 
 // What a call is answered: a number, or a refusal.
-fn told(answer: Result<usize, cases::CallFault>) -> (usize, Told) {
+fn told(answer: Result<usize, CallFault>) -> Result<usize, Told> {
     match answer {
-        Ok(n) => (n, (0, 0, 0)),
+        Ok(n) => Ok(n),
         Err(fault) => {
-            let refusal = fault.refusal();
-            (0, (refusal.number, refusal.layer, refusal.place))
+            let refusal = Refusal::from(fault);
+            Err((refusal.number, usize::from(refusal.layer), refusal.place))
         }
     }
 }
@@ -130,15 +131,15 @@ fn four_hundred_steps(rt: HostRuntime) -> Result<(), Fail> {
     assert!(rt; draft.clause(1, b"a").is_ok());
     let (mut case, _count) = draft.seal();
     for number in 1..=400 {
-        assert!(rt; told(case.step(CONTRA)) == (number, (0, 0, 0)));
+        assert!(rt; told(case.step(CONTRA)) == Ok(number));
     }
-    assert!(rt; told(case.step(CONTRA)) == (0, (13, 3, 0)));
+    assert!(rt; told(case.step(CONTRA)) == Err((13, 3, 0)));
     let wrong = StepCall {
         conclusion: &[9],
         ..CONTRA
     };
-    assert!(rt; told(case.step(wrong)) == (0, (13, 3, 0)));
-    assert_eq!(rt; case.verdict().number(), 0);
+    assert!(rt; told(case.step(wrong)) == Err((13, 3, 0)));
+    assert_eq!(rt; usize::from(case.verdict()), 0);
     Ok(())
 }
 
@@ -167,11 +168,11 @@ impl Kit for Never {
 
     ghost sound = { Prim.search rules };
 
-    fn judge(&self, _table: &Table, step: &Step, _premises: &[Sequent]) -> Judgement {
+    fn judge(&self, _table: &Table, step: &Step, _premises: &[Sequent]) -> Result<(), KitFault> {
         if step.rule == 7 {
-            Judgement::NotAllowed
+            Err(KitFault::NotAllowed)
         } else {
-            Judgement::Unknown
+            Err(KitFault::Unknown)
         }
     }
 
@@ -200,13 +201,13 @@ fn a_kit_of_another_make(rt: HostRuntime) -> Result<(), Fail> {
     assert!(rt; draft.find(b"contra") == Some(101));
     assert!(rt; draft.find(b"unit") == Some(201));
     let (mut case, _count) = draft.seal();
-    assert!(rt; told(case.step(StepCall { rule: 7, ..CONTRA })) == (0, (12, 4, 0)));
-    assert!(rt; told(case.step(CONTRA)) == (0, (9, 4, 0)));
+    assert!(rt; told(case.step(StepCall { rule: 7, ..CONTRA })) == Err((12, 4, 0)));
+    assert!(rt; told(case.step(CONTRA)) == Err((9, 4, 0)));
     assert!(rt;
         told(case.step(StepCall {
             rule: 101,
             ..CONTRA
-        })) == (1, (0, 0, 0))
+        })) == Ok(1)
     );
     let unit = StepCall {
         rule: 201,
@@ -218,11 +219,11 @@ fn a_kit_of_another_make(rt: HostRuntime) -> Result<(), Fail> {
         told(case.step(StepCall {
             principal: 10_000,
             ..unit
-        })) == (0, (12, 4, 0))
+        })) == Err((12, 4, 0))
     );
-    assert_eq!(rt; case.verdict().number(), 0);
-    assert!(rt; told(case.step(unit)) == (2, (0, 0, 0)));
-    assert_eq!(rt; case.verdict().number(), 1);
+    assert_eq!(rt; usize::from(case.verdict()), 0);
+    assert!(rt; told(case.step(unit)) == Ok(2));
+    assert_eq!(rt; usize::from(case.verdict()), 1);
     Ok(())
 }
 
@@ -248,19 +249,19 @@ fn a_record(rt: HostRuntime) -> Result<(), Fail> {
         Call::Verdict,
     ];
     let answers = [
-        (0, (0, 0, 0)),
-        (6, (0, 0, 0)),
-        (0, (4, 1, 1)),
-        (0, (0, 0, 0)),
-        (0, (14, 3, 26)),
-        (1, (0, 0, 0)),
-        (0, (17, 3, 0)),
-        (1, (0, 0, 0)),
-        (2, (0, 0, 0)),
-        (2, (0, 0, 0)),
-        (0, (16, 3, 0)),
-        (0, (0, 0, 0)),
-        (0, (0, 0, 0)),
+        Ok(0),
+        Ok(6),
+        Err((4, 1, 1)),
+        Ok(0),
+        Err((14, 3, 26)),
+        Ok(1),
+        Err((17, 3, 0)),
+        Ok(1),
+        Ok(2),
+        Ok(2),
+        Err((16, 3, 0)),
+        Ok(0),
+        Ok(0),
     ];
     let mut entries = Vec::new(rt.alloc());
     for call in calls {
@@ -276,8 +277,8 @@ fn a_record(rt: HostRuntime) -> Result<(), Fail> {
         assert!(rt; told(entry.answer) == *answer);
     }
     let (one, other) = verdicts(&case, &case);
-    assert_eq!(rt; one.number(), 0);
-    assert_eq!(rt; other.number(), 0);
+    assert_eq!(rt; usize::from(one), 0);
+    assert_eq!(rt; usize::from(other), 0);
     Ok(())
 }
 
@@ -310,7 +311,7 @@ fn refused_calls_change_nothing(rt: HostRuntime) -> Result<(), Fail> {
             _ => return Err(Fail::new("no row")),
         }
     }
-    assert_eq!(rt; plain.verdict().number(), tried.verdict().number());
+    assert_eq!(rt; usize::from(plain.verdict()), usize::from(tried.verdict()));
     assert!(rt; told(plain.step(CONTRA)) == told(tried.step(CONTRA)));
     Ok(())
 }
@@ -321,21 +322,21 @@ fn verdicts_of_two_cases(rt: HostRuntime) -> Result<(), Fail> {
     let mut by_sequents = Draft::new(Sequents, rt.alloc())?;
     assert!(rt; by_sequents.clause(1, b"a&!a").is_ok());
     let (mut one, _count) = by_sequents.seal();
-    assert!(rt; told(one.step(CONTRA)) == (1, (0, 0, 0)));
+    assert!(rt; told(one.step(CONTRA)) == Ok(1));
     let and = StepCall {
         rule: 3,
         principal: 4,
         conclusion: &[4],
         premises: &[1],
     };
-    assert!(rt; told(one.step(and)) == (2, (0, 0, 0)));
+    assert!(rt; told(one.step(and)) == Ok(2));
     let mut by_units = Draft::new(Units, rt.alloc())?;
     assert!(rt; by_units.clause(1, b"a&!a").is_ok());
     let (mut other, _count) = by_units.seal();
     assert!(rt; other.state(1).is_ok());
     assert!(rt; other.close_loop(0).is_err());
     let (first, second) = verdicts(&one, &other);
-    assert_eq!(rt; first.number(), 1);
-    assert_eq!(rt; second.number(), 0);
+    assert_eq!(rt; usize::from(first), 1);
+    assert_eq!(rt; usize::from(second), 0);
     Ok(())
 }

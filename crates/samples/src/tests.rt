@@ -1,10 +1,11 @@
 // Cases that are run, as tables.
-use casefile::sorvigzna_sheet;
+use casefile::{SheetFault, sorvigzna_sheet, write_sheet};
 use cases::Draft;
 use sequents::Sequents;
 use std::alloc::Global;
 use std::process::Abort;
 use std::test::Fail;
+use texts::Refusal;
 
 // Pieces of a file or a sheet, each with how often it comes.
 type Pieces<'a> = &'a [(&'a [u8], usize)];
@@ -355,8 +356,8 @@ fn clauses(rt: HostRuntime) -> Result<(), Fail> {
         let answer = match draft.clause(*kind, text) {
             Ok(number) => Ok(number.0),
             Err(fault) => {
-                let refusal = fault.refusal();
-                Err((refusal.number, refusal.layer, refusal.place))
+                let refusal = Refusal::from(fault);
+                Err((refusal.number, usize::from(refusal.layer), refusal.place))
             }
         };
         assert!(rt; answer == *told);
@@ -656,8 +657,8 @@ fn refused_rows(rt: HostRuntime) -> Result<(), Fail> {
         match case.row(*number, *back) {
             Ok(_) => return Err(Fail::new("a row")),
             Err(fault) => {
-                let refusal = fault.refusal();
-                assert!(rt; (refusal.number, refusal.layer, refusal.place) == *told);
+                let refusal = Refusal::from(fault);
+                assert!(rt; (refusal.number, usize::from(refusal.layer), refusal.place) == *told);
             }
         }
     }
@@ -665,9 +666,23 @@ fn refused_rows(rt: HostRuntime) -> Result<(), Fail> {
     match case.state(0b101 << 27) {
         Ok(_) => Err(Fail::new("a state")),
         Err(fault) => {
-            let refusal = fault.refusal();
-            assert!(rt; (refusal.number, refusal.layer, refusal.place) == (14, 3, 27));
+            let refusal = Refusal::from(fault);
+            assert!(rt; (refusal.number, usize::from(refusal.layer), refusal.place) == (14, 3, 27));
             Ok(())
         }
     }
+}
+
+// A sheet by its length, or why there is none.
+#[test]
+fn sheets_by_result(rt: HostRuntime) -> Result<(), Fail> {
+    let heap = rt.alloc();
+    let mut out = vec![in heap; 7u8; 200]?;
+    assert!(rt; write_sheet(b"kit=s\nseal=\n", out.as_mut_slice(), heap) == Ok(13));
+    assert!(rt; out.as_slice().starts_with(b"kit=s\nseal=1\n\x07"));
+    assert!(rt; write_sheet(b"", out.as_mut_slice(), heap) == Err(SheetFault::FileRefused));
+    assert!(rt;
+        write_sheet(b"kit=s\n\n\n\n", out.as_mut_slice(), heap) == Err(SheetFault::BufferTooShort)
+    );
+    Ok(())
 }

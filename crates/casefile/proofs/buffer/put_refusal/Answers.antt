@@ -1,5 +1,6 @@
 use Rattle.std.proofs.Common.{ℕ, ◌+◌, ◌≤◌, List, ◌++◌, length, codes, ◌∙◌, subst, arith}
 use Rattle.std.proofs.lemmas.List.{length-append, append_assoc}
+use Rattle.texts.specs.Faults.{layer_number}
 use Rattle.casefile.specs.Fields.{number_field}
 use Rattle.casefile.proofs.Writing.{Wrote, wrote_length, wrote_on}
 use Rattle.casefile.proofs.buffer.put_refusal.Goals as goal
@@ -33,31 +34,31 @@ module _ (xs ps bs cs ds : List ℕ) (at : ℕ) (room : at + length (ps ++ (bs +
             (wrote_on three t (omega (arith, parts, length-append ps bs, length-append (ps ++ bs) cs)))
 
 pub put_field-layer-requires : goal.put_field-layer-requires
-put_field-layer-requires c = omega (arith, parts _ (number_field (codes "refused") c.args.refusal.number) (number_field (codes "layer") c.args.refusal.layer) (number_field (codes "line") c.args.line) (number_field (codes "place") c.args.refusal.place) _ c.requires)
+put_field-layer-requires c = omega (arith, parts _ (number_field (codes "refused") c.args.refusal.number) (number_field (codes "layer") (layer_number c.args.refusal.layer)) (number_field (codes "line") c.args.line) (number_field (codes "place") c.args.refusal.place) _ c.requires)
 
 pub put_field-number-requires : goal.put_field-number-requires
 put_field-number-requires c =
-    after_one _ (number_field (codes "refused") c.args.refusal.number) (number_field (codes "layer") c.args.refusal.layer) (number_field (codes "line") c.args.line) (number_field (codes "place") c.args.refusal.place) _ c.requires
-    _ _ (record { value = c.put_field-layer.ensures.value; after = c.put_field-layer.ensures.after })
+    rw c.into.ensures (after_one _ (number_field (codes "refused") c.args.refusal.number) (number_field (codes "layer") (layer_number c.args.refusal.layer)) (number_field (codes "line") c.args.line) (number_field (codes "place") c.args.refusal.place) _ c.requires
+    _ _ (record { value = c.put_field-layer.ensures.value; after = c.put_field-layer.ensures.after }))
 
 pub put_field-place-requires : goal.put_field-place-requires
 put_field-place-requires c =
-    after_two _ (number_field (codes "refused") c.args.refusal.number) (number_field (codes "layer") c.args.refusal.layer) (number_field (codes "line") c.args.line) (number_field (codes "place") c.args.refusal.place) _ c.requires
+    after_two _ (number_field (codes "refused") c.args.refusal.number) (number_field (codes "layer") (layer_number c.args.refusal.layer)) (number_field (codes "line") c.args.line) (number_field (codes "place") c.args.refusal.place) _ c.requires
     _ _ (record { value = c.put_field-layer.ensures.value; after = c.put_field-layer.ensures.after })
-    _ _ (record { value = c.put_field-number.ensures.value; after = c.put_field-number.ensures.after })
+    _ _ (subst (λ n. Wrote c.put_field-layer.new.out c.put_field-layer.result (number_field (codes "layer") n) c.put_field-number.new.out c.put_field-number.result) c.into.ensures (record { value = c.put_field-number.ensures.value; after = c.put_field-number.ensures.after }))
 
 pub put_field-requires : goal.put_field-requires
 put_field-requires c =
-    after_three _ (number_field (codes "refused") c.args.refusal.number) (number_field (codes "layer") c.args.refusal.layer) (number_field (codes "line") c.args.line) (number_field (codes "place") c.args.refusal.place) _ c.requires
+    after_three _ (number_field (codes "refused") c.args.refusal.number) (number_field (codes "layer") (layer_number c.args.refusal.layer)) (number_field (codes "line") c.args.line) (number_field (codes "place") c.args.refusal.place) _ c.requires
     _ _ (record { value = c.put_field-layer.ensures.value; after = c.put_field-layer.ensures.after })
-    _ _ (record { value = c.put_field-number.ensures.value; after = c.put_field-number.ensures.after })
+    _ _ (subst (λ n. Wrote c.put_field-layer.new.out c.put_field-layer.result (number_field (codes "layer") n) c.put_field-number.new.out c.put_field-number.result) c.into.ensures (record { value = c.put_field-number.ensures.value; after = c.put_field-number.ensures.after }))
     _ _ (record { value = c.put_field-place.ensures.value; after = c.put_field-place.ensures.after })
 
 pub returns : goal.returns
 returns c =
-    let w = four _ (number_field (codes "refused") c.args.refusal.number) (number_field (codes "layer") c.args.refusal.layer) (number_field (codes "line") c.args.line) (number_field (codes "place") c.args.refusal.place) _ c.requires
+    let w = four _ (number_field (codes "refused") c.args.refusal.number) (number_field (codes "layer") (layer_number c.args.refusal.layer)) (number_field (codes "line") c.args.line) (number_field (codes "place") c.args.refusal.place) _ c.requires
     _ _ (record { value = c.put_field-layer.ensures.value; after = c.put_field-layer.ensures.after })
-    _ _ (record { value = c.put_field-number.ensures.value; after = c.put_field-number.ensures.after })
+    _ _ (subst (λ n. Wrote c.put_field-layer.new.out c.put_field-layer.result (number_field (codes "layer") n) c.put_field-number.new.out c.put_field-number.result) c.into.ensures (record { value = c.put_field-number.ensures.value; after = c.put_field-number.ensures.after }))
     _ _ (record { value = c.put_field-place.ensures.value; after = c.put_field-place.ensures.after })
     _ _ (record { value = c.put_field.ensures.value; after = c.put_field.ensures.after }) in
     record { value = w.value; after = w.after }

@@ -6,15 +6,15 @@ use Rattle.casefile.proofs.sheet.put_fault.Goals as goal
 
 pub put_refusal-requires : goal.put_refusal-requires
 put_refusal-requires c =
-    let r = c.refusal.result in
-    let s : Short r = subst Short (sym c.refusal.ensures) (short c.args.fault) in
+    let r = c.from.result in
+    let s : Short r = subst Short (sym c.from.ensures) (short c.args.fault) in
     let fits : r.place < 2 ^ 64 = omega arith in
     omega (arith, refusal_short c.args.line r s.number s.layer c.requires.line fits)
 
 pub returns : goal.returns
 returns c =
-    let r = c.refusal.result in
-    let s : Short r = subst Short (sym c.refusal.ensures) (short c.args.fault) in
+    let r = c.from.result in
+    let s : Short r = subst Short (sym c.from.ensures) (short c.args.fault) in
     let fits : r.place < 2 ^ 64 = omega arith in
     let few = refusal_short c.args.line r s.number s.layer c.requires.line fits in
     let w = c.put_refusal.ensures in

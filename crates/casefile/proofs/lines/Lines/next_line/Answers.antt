@@ -1,45 +1,25 @@
-use Rattle.std.proofs.Common.{◌≡◌, ℕ, ◌+◌, ◌-◌, ◌<◌, ◌≤◌, List, length, get_or, drop, sym, refl, ap, arith}
-use Rattle.std.proofs.lemmas.Bool.{le-ltb, lt-ltb, false≢true}
-use Rattle.std.proofs.lemmas.List.{at_drop_all}
+use Rattle.std.proofs.Common.{◌≡◌, ◌+◌, length, drop, sym, ap, ◌∙◌, arith}
+use Rattle.std.proofs.lemmas.Bool.{eqb-true}
+use Rattle.std.proofs.lemmas.List.{at_drop_all, drop-drop}
 use Rattle.casefile.specs.Newlines.{newlines}
-use Rattle.casefile.proofs.Passing.{one_line, no_line}
+use Rattle.casefile.proofs.Passing.{newlines_few, first_passed, none_passed}
 use Rattle.casefile.proofs.lines.Lines.next_line.Goals as goal
-use Rattle.casefile.proofs.lines.Lines.next_line.Goals.{then-end-file, else-end-file}
+use Rattle.casefile.proofs.lines.Lines.next_line.Goals.{in-Some, in-None}
 
-pub returns-then-start-file : goal.returns-then-start-file
-returns-then-start-file c = record {
-  file = refl;
-  some = sym (le-ltb c.args.self.now.at (length c.args.self.now.file.now) c.if-start-file.true);
-  passed = omega (arith, at_drop_all newlines c.args.self.now.file.now c.args.self.now.at c.if-start-file.true);
-  counted = refl;
-  moved = λ h. omega (arith, false≢true h);
-}
+pub returns-then-is_empty-clause-passed : goal.returns-then-is_empty-clause-passed
+returns-then-is_empty-clause-passed c =
+    let rest = drop c.args.self.now.at c.args.self.now.file.now in
+    let none : length rest ≡ 0 = ap length (sym c.rest-rest.ensures) ∙ eqb-true (length c.rest-rest.result.now) 0 (sym c.is_empty.ensures ∙ c.if-is_empty.true) in
+    omega (arith, newlines_few rest, none)
 
--- the line's end is in the file, or the file ends without it
-to_end : (file : List ℕ) (i k next : ℕ) → i ≤ k → ((j : ℕ) → i ≤ j → j < k → get_or file j 0 ≡ 10 → ⊥) → (k < length file → get_or file k 0 ≡ 10)
-    → k < length file → next ≡ k + 1 → newlines (drop next file) ≡ newlines (drop i file) - 1
-to_end file i k next le before found lt e = omega (arith, one_line file i k le lt before (found lt), ap (λ n. newlines (drop n file)) e)
-
-to_last : (file : List ℕ) (i k next : ℕ) → k ≤ length file → ((j : ℕ) → i ≤ j → j < k → get_or file j 0 ≡ 10 → ⊥)
-    → length file ≤ k → next ≡ k → newlines (drop next file) ≡ newlines (drop i file) - 1
-to_last file i k next within before past e =
-    omega (arith, no_line file i (λ j le lt. before j le (omega arith)), at_drop_all newlines file next (omega arith))
-
-pub returns : goal.returns
-returns c =
+pub returns-clause-passed : goal.returns-clause-passed
+returns-clause-passed c =
     let file = c.args.self.now.file.now in
-    let i = c.args.self.now.at in
-    let end = c.find-end.ensures in
-    record {
-      file = refl;
-      some = sym (lt-ltb i (length file) c.if-start-file.false);
-      passed = elim c.if-end-file.branch [
-        | then-end-file w ↦ to_end file i c.find-end.result c.if-end-file.self end.within.1 end.before end.found w.if-end-file.true w.self-is
-        | else-end-file w ↦ to_last file i c.find-end.result c.if-end-file.self end.within.0 end.before w.if-end-file.false w.self-is
-      ];
-      counted = refl;
-      moved = λ h. elim c.if-end-file.branch [
-        | then-end-file w ↦ omega (arith, w.self-is, end.within.1)
-        | else-end-file w ↦ omega (arith, w.self-is, w.if-end-file.false, c.if-start-file.false)
-      ];
-    }
+    let at = c.args.self.now.at in
+    let rest = c.rest-rest.result.now in
+    let next : newlines (drop (at + c.match-find.passed.1) file) ≡ newlines (drop c.match-find.passed.1 rest) = ap newlines (sym (drop-drop c.match-find.passed.1 at file) ∙ ap (drop c.match-find.passed.1) (sym c.rest-rest.ensures)) in
+    let was : newlines (drop at file) ≡ newlines rest = ap newlines (sym c.rest-rest.ensures) in
+    elim c.match-find.branch [
+      | in-Some w ↦ omega (arith, next, was, (first_passed rest w.in-Some.len w.in-Some.ensures).1, ap (λ x. newlines (drop x.1 rest)) w.passed-is)
+      | in-None w ↦ omega (arith, next, was, none_passed rest w.in-None.ensures, ap (λ x. newlines (drop x.1 rest)) w.passed-is, at_drop_all newlines rest (length rest) (omega arith))
+    ]
