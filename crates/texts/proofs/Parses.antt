@@ -1,6 +1,7 @@
 -- What the answers of the five levels follow from: a part of a text that is read is one step of the pass, parts
 -- and signs join to larger parts, and where a part fails the pass comes to the same fault. Assumes nothing.
-use Rattle.std.proofs.Common.{◌≡◌, ℕ, ◌+◌, ◌-◌, ◌<◌, ◌≤◌, true, cond, ◌&&◌, ltb, List, [], ◌∷◌, ◌++◌, length, get_or, take, drop, Err, sym, refl, ap, ◌∙◌, subst, ⊎_elim, append_assoc, append-nil, arith, length-append, length-drop, take-add}
+use Rattle.std.proofs.Common.{◌≡◌, ℕ, ◌+◌, ◌-◌, ◌<◌, ◌≤◌, true, cond, ◌&&◌, ltb, List, [], ◌∷◌, ◌++◌, length, get_or, take, drop, Ok, Err, Result, sym, refl, ap, ◌∙◌, subst, ⊎_elim, append_assoc, append-nil, arith, length-append, length-drop, take-add}
+use Rattle.std.specs.Prelude.{IsErrAnd}
 use Rattle.std.proofs.lemmas.List.{drop_more, drop-drop, take_all, at_drop_more, at_drop_all, take-append-drop, length-take-le, length_push}
 use Rattle.std.proofs.lemmas.Bool.{cases_lt, and_from, lt-ltb, le-ltb, cond-true, cond-false}
 use Rattle.pltl.specs.Formulas.{Tree, one, and, or, implies}
@@ -8,10 +9,10 @@ use Rattle.texts.specs.declared.Sign.{Sign}
 use Rattle.texts.specs.declared.Sign.TheVariants.{Not, Next, Always, Eventually, Until, Release, And, Or, Minus, Greater, Open, Close, One, Zero, Letter, Other}
 use Rattle.texts.specs.declared.faults.TextFault.{TextFault}
 use Rattle.texts.specs.declared.faults.TextFault.TheVariants.{Unexpected, Incomplete}
-use Rattle.texts.specs.declared.levels.Parsed.{Parsed}
+use Rattle.texts.specs.declared.levels.Reader.{Reader}
 use Rattle.texts.specs.declared.nodes.Node.{Node}
 use Rattle.texts.specs.Grammar.{Level, implication, disjunction, conjunction, temporal, unary, Spells, bracket_text}
-use Rattle.texts.specs.Parsing.{rank, looseness, ReadAs, Fails}
+use Rattle.texts.specs.Parsing.{rank, looseness, rest, nodes_of, passed, Steps, ReadAs, outcome, Fails}
 use Rattle.texts.specs.Scan.{Pending, nothing, Frame, State, before, after, arrow, stuck, step, step_before, step_after, step_arrow, ended, unless_stuck, scan, start}
 use Rattle.texts.specs.Signs.{sign_of, sign_from}
 use Rattle.texts.specs.Syntax.{trees, tree_over, tree_at}
@@ -40,19 +41,21 @@ Some Zero = Unit
 Some (Letter k) = Unit
 Some Other = ⊥
 
-pub record Here (text : List ℕ) (at : ℕ) (g : Sign) : Type 0 where
-  pub lies : at < length text
-  pub sign : sign_of (get_or text at 0) ≡ g
+-- r' is r over the sign g
+pub record Crosses (g : Sign) (r r' : Reader) : Type 0 where
+  pub lies : r.at < length r.text.now
+  pub sign : sign_of (get_or r.text.now r.at 0) ≡ g
+  pub step : Steps r r'
 
-pub here : (text : List ℕ) (at : ℕ) {g : Sign} → Some g → g ≡ sign_from (drop at text) → Here text at g
-here text at s e =
+pub crosses : {g : Sign} {r r' : Reader} → Some g → g ≡ sign_from (rest r) → Steps r r' → Crosses g r r'
+crosses {r = r} s e m =
     ⊎_elim
-    (λ l. record { lies = l; sign = sym (e ∙ at_drop_more sign_from text at 0 l) })
-    (λ h. absurd (subst Some (e ∙ at_drop_all sign_from text at h) s))
-    (cases_lt at (length text))
+    (λ l. record { lies = l; sign = sym (e ∙ at_drop_more sign_from r.text.now r.at 0 l); step = m })
+    (λ h. absurd (subst Some (e ∙ at_drop_all sign_from r.text.now r.at h) s))
+    (cases_lt r.at (length r.text.now))
 
-pub stands : {text : List ℕ} {at : ℕ} {g : Sign} → Here text at g → Stands g (get_or text at 0)
-stands {text = text} {at = at} h = subst (λ g. Stands g (get_or text at 0)) h.sign (sign_stands (get_or text at 0))
+pub stands : {g : Sign} {r r' : Reader} → Crosses g r r' → Stands g (get_or r.text.now r.at 0)
+stands {r = r} h = subst (λ g. Stands g (get_or r.text.now r.at 0)) h.sign (sign_stands (get_or r.text.now r.at 0))
 
 -- what holds of the signs that go on at some level, and of every other
 module _ (P : Sign → Type 0) where
@@ -77,21 +80,21 @@ module _ (P : Sign → Type 0) where
 pub every_loose : (g : Sign) → 0 < looseness g
 every_loose = sign_cases (λ g. 0 < looseness g) (omega arith) (omega arith) (omega arith) (omega arith) (omega arith) (λ g e. omega arith)
 
-pub past_until : (g : Sign) → 0 < looseness g → (g ≡ Until → ⊥) → (g ≡ Release → ⊥) → 1 < looseness g
-past_until = sign_cases (λ g. 0 < looseness g → (g ≡ Until → ⊥) → (g ≡ Release → ⊥) → 1 < looseness g)
-    (λ h n m. absurd (n refl)) (λ h n m. absurd (m refl)) (λ h n m. omega arith) (λ h n m. omega arith) (λ h n m. omega arith) (λ g e h n m. omega arith)
+pub past_until : (g : Sign) → (g ≡ Until → ⊥) → (g ≡ Release → ⊥) → 0 < looseness g → 1 < looseness g
+past_until = sign_cases (λ g. (g ≡ Until → ⊥) → (g ≡ Release → ⊥) → 0 < looseness g → 1 < looseness g)
+    (λ n m h. absurd (n refl)) (λ n m h. absurd (m refl)) (λ n m h. omega arith) (λ n m h. omega arith) (λ n m h. omega arith) (λ g e n m h. omega arith)
 
-pub past_and : (g : Sign) → 1 < looseness g → (g ≡ And → ⊥) → 2 < looseness g
-past_and = sign_cases (λ g. 1 < looseness g → (g ≡ And → ⊥) → 2 < looseness g)
-    (λ h n. omega arith) (λ h n. omega arith) (λ h n. absurd (n refl)) (λ h n. omega arith) (λ h n. omega arith) (λ g e h n. omega arith)
+pub past_and : (g : Sign) → (g ≡ And → ⊥) → 1 < looseness g → 2 < looseness g
+past_and = sign_cases (λ g. (g ≡ And → ⊥) → 1 < looseness g → 2 < looseness g)
+    (λ n h. omega arith) (λ n h. omega arith) (λ n h. absurd (n refl)) (λ n h. omega arith) (λ n h. omega arith) (λ g e n h. omega arith)
 
-pub past_or : (g : Sign) → 2 < looseness g → (g ≡ Or → ⊥) → 3 < looseness g
-past_or = sign_cases (λ g. 2 < looseness g → (g ≡ Or → ⊥) → 3 < looseness g)
-    (λ h n. omega arith) (λ h n. omega arith) (λ h n. omega arith) (λ h n. absurd (n refl)) (λ h n. omega arith) (λ g e h n. omega arith)
+pub past_or : (g : Sign) → (g ≡ Or → ⊥) → 2 < looseness g → 3 < looseness g
+past_or = sign_cases (λ g. (g ≡ Or → ⊥) → 2 < looseness g → 3 < looseness g)
+    (λ n h. omega arith) (λ n h. omega arith) (λ n h. omega arith) (λ n h. absurd (n refl)) (λ n h. omega arith) (λ g e n h. omega arith)
 
-pub past_minus : (g : Sign) → 3 < looseness g → (g ≡ Minus → ⊥) → 4 < looseness g
-past_minus = sign_cases (λ g. 3 < looseness g → (g ≡ Minus → ⊥) → 4 < looseness g)
-    (λ h n. omega arith) (λ h n. omega arith) (λ h n. omega arith) (λ h n. omega arith) (λ h n. absurd (n refl)) (λ g e h n. omega arith)
+pub past_minus : (g : Sign) → (g ≡ Minus → ⊥) → 3 < looseness g → 4 < looseness g
+past_minus = sign_cases (λ g. (g ≡ Minus → ⊥) → 3 < looseness g → 4 < looseness g)
+    (λ n h. omega arith) (λ n h. omega arith) (λ n h. omega arith) (λ n h. omega arith) (λ n h. absurd (n refl)) (λ g e n h. omega arith)
 
 -- Parts of a text.
 
@@ -123,131 +126,141 @@ module _ (text : List ℕ) where
       let e : a + 1 - a ≡ 1 = omega arith in
       ap (λ n. take n (drop a text)) e ∙ ap (take 1) (drop_more text a 0 h)
 
--- the bytes from a up to b are w
-pub record Bytes (text : List ℕ) (a b : ℕ) (w : List ℕ) : Type 0 where
-  pub ahead : a < b
-  pub within : b ≤ length text
-  pub are : part text a b ≡ w
+-- r' is r over the bytes w
+pub record Over (r r' : Reader) (w : List ℕ) : Type 0 where
+  pub same_text : r'.text.now ≡ r.text.now
+  pub ahead : r.at < r'.at
+  pub are : passed r r' ≡ w
 
--- one byte
-pub byte : {text : List ℕ} {a : ℕ} (b : ℕ) {g : Sign} → Here text a g → get_or text a 0 ≡ b → Bytes text a (a + 1) (b ∷ [])
-byte {text = text} {a = a} b h e = record {
-  ahead = omega arith;
-  within = omega (arith, h.lies);
-  are = part_one text a h.lies ∙ ap (λ x. x ∷ []) e;
+-- a sign of one byte
+pub byte : {g : Sign} {r r' : Reader} (b : ℕ) → Crosses g r r' → get_or r.text.now r.at 0 ≡ b → Over r r' (b ∷ [])
+byte {r = r} b h e = record {
+  same_text = h.step.same_text;
+  ahead = omega (arith, h.step.at);
+  are = ap (part r.text.now r.at) h.step.at ∙ part_one r.text.now r.at h.lies ∙ ap (λ x. x ∷ []) e;
 }
 
 infixr 5 ◌followed-by◌
-pub ◌followed-by◌ : {text : List ℕ} {a b c : ℕ} {v w : List ℕ} → Bytes text a b v → Bytes text b c w → Bytes text a c (v ++ w)
-◌followed-by◌ {text = text} {a = a} {b = b} {c = c} f g =
-    let h : a ≤ b = omega (arith, f.ahead) in
-    let k : b ≤ c = omega (arith, g.ahead) in
-    record { ahead = omega (arith, f.ahead, g.ahead); within = g.within; are = part_append text a b c h k ∙ cc (f.are, g.are) }
-
-pub two_bytes : {text : List ℕ} {a : ℕ} (b d : ℕ) {g h : Sign} → Here text a g → Here text (a + 1) h → get_or text a 0 ≡ b → get_or text (a + 1) 0 ≡ d → Bytes text a (a + 2) (b ∷ d ∷ [])
-two_bytes {text = text} {a = a} b d f g p q =
-    let e : a + 1 + 1 ≡ a + 2 = omega arith in
-    subst (λ n. Bytes text a n (b ∷ d ∷ [])) e (byte b f p followed-by byte d g q)
+pub ◌followed-by◌ : {r r₁ r₂ : Reader} {v w : List ℕ} → Over r r₁ v → Over r₁ r₂ w → Over r r₂ (v ++ w)
+◌followed-by◌ {r = r} {r₁ = r₁} {r₂ = r₂} f g =
+    let h : r.at ≤ r₁.at = omega (arith, f.ahead) in
+    let k : r₁.at ≤ r₂.at = omega (arith, g.ahead) in
+    let e : part r.text.now r₁.at r₂.at ≡ part r₁.text.now r₁.at r₂.at = ap (λ t. part t r₁.at r₂.at) (sym f.same_text) in
+    record {
+      same_text = g.same_text ∙ f.same_text;
+      ahead = omega (arith, f.ahead, g.ahead);
+      are = part_append r.text.now r.at r₁.at r₂.at h k ∙ cc (f.are, g.are);
+    }
 
 -- What is read.
 
-pub nodes_grow : {l : Level} {text : List ℕ} {at : ℕ} {ns ns' : List Node} {p : Parsed} → ReadAs l text at ns ns' p → length ns ≤ length ns'
-nodes_grow {ns = ns} r = omega (arith, ap length r.grown.1, length-append ns r.grown.0)
-
 -- the nodes of two parts stand before the next
-pub parts_before : {l l' : Level} {text : List ℕ} {at m : ℕ} {ns ns₁ ns₂ : List Node} {p q : Parsed} (n : ℕ) → ReadAs l text at ns ns₁ p → ReadAs l' text m ns₁ ns₂ q →
-    n ≡ length ns₂ → (ltb p.node n && ltb q.node n) ≡ true
-parts_before {p = p} {q = q} n f g e =
-    let h = nodes_grow g in
-    and_from (ltb p.node n) (ltb q.node n) (lt-ltb p.node n (omega (arith, f.made))) (lt-ltb q.node n (omega (arith, g.made)))
+pub parts_before : {l l' : Level} {r r₁ r₂ r₃ : Reader} {p q : ℕ} → ReadAs l r r₁ p → Steps r₁ r₂ → ReadAs l' r₂ r₃ q → (n : ℕ) → n ≡ length (nodes_of r₃) → (ltb p n && ltb q n) ≡ true
+parts_before {r₂ = r₂} {p = p} {q = q} f s g n e =
+    let h : length (nodes_of r₂) ≤ n = omega (arith, ap length g.grown.1, length-append (nodes_of r₂) g.grown.0) in
+    and_from (ltb p n) (ltb q n) (lt-ltb p n (omega (arith, f.made, ap length s.same_nodes))) (lt-ltb q n (omega (arith, g.made)))
 
--- a part is one of a looser level if no sign follows that goes on there
-pub alone : {l : Level} (l' : Level) {text : List ℕ} {at : ℕ} {ns ns' : List Node} {p : Parsed} →
-    ((t : Tree) (w : List ℕ) → Spells l t w → Spells l' t w) → ReadAs l text at ns ns' p →
-    rank l' < looseness (sign_from (drop p.next text)) → ReadAs l' text at ns ns' p
-alone l' f r s = record { ahead = r.ahead; within = r.within; made = r.made; grown = r.grown; few = r.few; spells = f _ _ r.spells; stops = s }
+-- a part is one of a looser level if the sign that follows does not go on there
+pub alone : {l l' : Level} {r r' : Reader} {p : ℕ} {g : Sign} → ((t : Tree) (w : List ℕ) → Spells l t w → Spells l' t w) →
+    ReadAs l r r' p → g ≡ sign_from (rest r') → (rank l < looseness g → rank l' < looseness g) → ReadAs l' r r' p
+alone {l = l} {l' = l'} f r e s = record {
+  same_text = r.same_text;
+  ahead = r.ahead;
+  made = r.made;
+  grown = r.grown;
+  few = r.few;
+  spells = f _ _ r.spells;
+  stops = subst (λ g. rank l < looseness g → rank l' < looseness g) e s r.stops;
+}
 
--- the bytes w spell the tree that is pushed
-pub pushed : {l : Level} {text : List ℕ} {at n end : ℕ} {ns ns₁ ns₂ : List Node} {r : Parsed} {w : List ℕ} (node : Node) →
-    Bytes text at end w → (more : List Node) × (ns₁ ≡ ns ++ more) → length ns₁ + at < length ns + end →
-    Spells l (tree_over (trees ns₁) node) w → rank l < looseness (sign_from (drop end text)) →
-    n ≡ length ns₁ → ns₂ ≡ ns₁ ++ node ∷ [] → r ≡ record { node = n; next = end } → ReadAs l text at ns ns₂ r
-pushed {l = l} {text = text} {at = at} {n = n} {end = end} {ns = ns} {ns₁ = ns₁} {ns₂ = ns₂} {w = w} node b g few s k nh e rh =
-    let long = length_push ns₁ node in
-    let long₂ : length ns₂ ≡ length ns₁ + 1 = ap length e ∙ long in
-    let t : tree_over (trees ns₁) node ≡ get_or (trees ns₂) n one =
-    sym (ap (λ m. get_or (trees ns₂) m one) nh ∙ ap (λ m. get_or (trees m) (length ns₁) one) e ∙ tree_push ns₁ node) in
-    subst (ReadAs l text at ns ns₂) (sym rh) (record {
-      ahead = b.ahead;
-      within = b.within;
-      made = omega arith;
-      grown = (g.0 ++ node ∷ [], e ∙ ap (λ m. m ++ node ∷ []) g.1 ∙ append_assoc ns g.0 (node ∷ []));
-      few = omega arith;
-      spells = subst (λ x. Spells l x (part text at end)) t (subst (Spells l (tree_over (trees ns₁) node)) (sym b.are) s);
-      stops = k;
-    })
+-- r' is r with one node more, the n-th
+abbrev pub Adds : Node → Reader → Reader → ℕ → Type 0
+Adds node r r' n = (r'.text.now ≡ r.text.now) × (r'.at ≡ r.at) × (n ≡ length (nodes_of r)) × (nodes_of r' ≡ nodes_of r ++ node ∷ [])
+
+-- the bytes w spell the tree of the node that is added
+pub pushed : {l : Level} {r r₁ r₂ : Reader} {n : ℕ} {w : List ℕ} (node : Node) →
+    Over r r₁ w → (more : List Node) × (nodes_of r₁ ≡ nodes_of r ++ more) → length (nodes_of r₁) + r.at < length (nodes_of r) + r₁.at →
+    Spells l (tree_over (trees (nodes_of r₁)) node) w → rank l < looseness (sign_from (rest r₁)) → Adds node r₁ r₂ n → ReadAs l r r₂ n
+pushed {l = l} {r = r} {r₁ = r₁} {r₂ = r₂} {n = n} {w = w} node b g few s k a =
+    let e : nodes_of r₂ ≡ nodes_of r₁ ++ node ∷ [] = a.3 in
+    let long = length_push (nodes_of r₁) node in
+    let long₂ : length (nodes_of r₂) ≡ length (nodes_of r₁) + 1 = ap length e ∙ long in
+    let t : tree_over (trees (nodes_of r₁)) node ≡ tree_at (nodes_of r₂) n =
+    sym (ap (tree_at (nodes_of r₂)) a.2 ∙ ap (λ m. tree_at m (length (nodes_of r₁))) e ∙ tree_push (nodes_of r₁) node) in
+    let are : w ≡ passed r r₂ = sym b.are ∙ ap (part r.text.now r.at) (sym a.1) in
+    let rests : rest r₁ ≡ rest r₂ = cc (a.0, a.1) in
+    record {
+      same_text = a.0 ∙ b.same_text;
+      ahead = omega (arith, b.ahead, a.1);
+      made = omega (arith, a.2);
+      grown = (g.0 ++ node ∷ [], e ∙ ap (λ m. m ++ node ∷ []) g.1 ∙ append_assoc (nodes_of r) g.0 (node ∷ []));
+      few = omega (arith, a.1);
+      spells = subst (λ x. Spells l x (passed r r₂)) t (subst (Spells l (tree_over (trees (nodes_of r₁)) node)) are s);
+      stops = subst (λ v. rank l < looseness (sign_from v)) rests k;
+    }
 
 -- the bytes that a part was read from
-pub read_bytes : {l : Level} {text : List ℕ} {at : ℕ} {ns ns' : List Node} {p : Parsed} → ReadAs l text at ns ns' p → Bytes text at p.next (part text at p.next)
-read_bytes r = record { ahead = r.ahead; within = r.within; are = refl }
+pub read_bytes : {l : Level} {r r' : Reader} {p : ℕ} → ReadAs l r r' p → Over r r' (passed r r')
+read_bytes f = record { same_text = f.same_text; ahead = f.ahead; are = refl }
 
 -- two parts and the sign between them
-module _ {l l' : Level} {text : List ℕ} {at m n : ℕ} {ns ns₁ ns₂ ns₃ : List Node} {p q r : Parsed} {op : List ℕ} (node : Node) (J : Tree → Tree → Tree)
+module _ {l l' : Level} {r r₁ r₂ r₃ r₄ : Reader} {p q n : ℕ} {op : List ℕ} (node : Node) (J : Tree → Tree → Tree)
     (joins : (a b : Tree) (v w : List ℕ) → Spells l a v → Spells l' b w → Spells l' (J a b) (v ++ (op ++ w)))
-    (over : (ts : List Tree) → tree_over ts node ≡ J (get_or ts p.node one) (get_or ts q.node one)) where
-  pub joined : ReadAs l text at ns ns₁ p → Bytes text p.next m op → ReadAs l' text m ns₁ ns₂ q →
-      n ≡ length ns₂ → ns₃ ≡ ns₂ ++ node ∷ [] → r ≡ record { node = n; next = q.next } → ReadAs l' text at ns ns₃ r
-  joined f b g nh e rh =
-      let stays : get_or (trees ns₂) p.node one ≡ get_or (trees ns₁) p.node one =
-      ap (λ x. get_or (trees x) p.node one) g.grown.1 ∙ tree_stays ns₁ g.grown.0 p.node f.made in
-      let t : J (get_or (trees ns₁) p.node one) (get_or (trees ns₂) q.node one) ≡ tree_over (trees ns₂) node =
-      sym (over (trees ns₂) ∙ ap (λ x. J x (get_or (trees ns₂) q.node one)) stays) in
+    (both : (ts : List Tree) → tree_over ts node ≡ J (get_or ts p one) (get_or ts q one)) where
+  pub joined : ReadAs l r r₁ p → Over r₁ r₂ op → nodes_of r₂ ≡ nodes_of r₁ → ReadAs l' r₂ r₃ q → Adds node r₃ r₄ n → ReadAs l' r r₄ n
+  joined f b same g a =
+      let more : nodes_of r₃ ≡ nodes_of r₁ ++ g.grown.0 = g.grown.1 ∙ ap (λ x. x ++ g.grown.0) same in
+      let stays : tree_at (nodes_of r₃) p ≡ tree_at (nodes_of r₁) p =
+      ap (λ x. tree_at x p) more ∙ tree_stays (nodes_of r₁) g.grown.0 p f.made in
+      let t : J (tree_at (nodes_of r₁) p) (tree_at (nodes_of r₃) q) ≡ tree_over (trees (nodes_of r₃)) node =
+      sym (both (trees (nodes_of r₃)) ∙ ap (λ x. J x (tree_at (nodes_of r₃) q)) stays) in
       pushed node (read_bytes f followed-by b followed-by read_bytes g)
-      (f.grown.0 ++ g.grown.0, g.grown.1 ∙ ap (λ x. x ++ g.grown.0) f.grown.1 ∙ append_assoc ns f.grown.0 g.grown.0)
-      (omega (arith, f.few, g.few, b.ahead))
-      (subst (λ x. Spells l' x (part text at p.next ++ (op ++ part text m q.next))) t (joins _ _ _ _ f.spells g.spells))
-      g.stops nh e rh
+      (f.grown.0 ++ g.grown.0, more ∙ ap (λ x. x ++ g.grown.0) f.grown.1 ∙ append_assoc (nodes_of r) f.grown.0 g.grown.0)
+      (omega (arith, f.few, g.few, b.ahead, ap length same))
+      (subst (λ x. Spells l' x (passed r r₁ ++ (op ++ passed r₂ r₃))) t (joins _ _ _ _ f.spells g.spells))
+      g.stops a
 
 -- a part and the sign before it
-module _ {l : Level} {text : List ℕ} {at m n : ℕ} {ns ns₁ ns₂ : List Node} {p r : Parsed} {op : List ℕ} (node : Node) (J : Tree → Tree)
+module _ {l : Level} {r r₁ r₂ r₃ : Reader} {p n : ℕ} {op : List ℕ} (node : Node) (J : Tree → Tree)
     (joins : (a : Tree) (w : List ℕ) → Spells l a w → Spells l (J a) (op ++ w))
-    (over : (ts : List Tree) → tree_over ts node ≡ J (get_or ts p.node one)) where
-  pub signed : Bytes text at m op → ReadAs l text m ns ns₁ p →
-      n ≡ length ns₁ → ns₂ ≡ ns₁ ++ node ∷ [] → r ≡ record { node = n; next = p.next } → ReadAs l text at ns ns₂ r
-  signed b g nh e rh =
-      pushed node (b followed-by read_bytes g) g.grown (omega (arith, g.few, b.ahead))
-      (subst (λ x. Spells l x (op ++ part text m p.next)) (sym (over (trees ns₁))) (joins _ _ g.spells)) g.stops nh e rh
+    (both : (ts : List Tree) → tree_over ts node ≡ J (get_or ts p one)) where
+  pub signed : Over r r₁ op → nodes_of r₁ ≡ nodes_of r → ReadAs l r₁ r₂ p → Adds node r₂ r₃ n → ReadAs l r r₃ n
+  signed b same g a =
+      pushed node (b followed-by read_bytes g) (g.grown.0, g.grown.1 ∙ ap (λ x. x ++ g.grown.0) same) (omega (arith, g.few, b.ahead, ap length same))
+      (subst (λ x. Spells l x (op ++ passed r₁ r₂)) (sym (both (trees (nodes_of r₂)))) (joins _ _ g.spells)) g.stops a
 
 -- a sign that is a part by itself
-pub atom : {text : List ℕ} {at m n : ℕ} {ns ns₁ : List Node} {r : Parsed} {op : List ℕ} (node : Node) → Spells unary (tree_over (trees ns) node) op →
-    Bytes text at m op → n ≡ length ns → ns₁ ≡ ns ++ node ∷ [] → r ≡ record { node = n; next = m } → ReadAs unary text at ns ns₁ r
-atom {text = text} {m = m} {ns = ns} node s b nh e rh =
-    pushed node b ([], sym (append-nil ns)) (omega (arith, b.ahead)) s (every_loose (sign_from (drop m text))) nh e rh
+pub atom : {r r₁ r₂ : Reader} {n : ℕ} {op : List ℕ} (node : Node) → ((ts : List Tree) → Spells unary (tree_over ts node) op) →
+    Over r r₁ op → nodes_of r₁ ≡ nodes_of r → Adds node r₁ r₂ n → ReadAs unary r r₂ n
+atom {r = r} {r₁ = r₁} node s b same a =
+    pushed node b ([], same ∙ sym (append-nil (nodes_of r))) (omega (arith, b.ahead, ap length same)) (s (trees (nodes_of r₁))) (every_loose (sign_from (rest r₁))) a
 
 -- a part in brackets
-pub in_brackets : {text : List ℕ} {at m n : ℕ} {ns ns₁ : List Node} {p : Parsed} → Bytes text at m (40 ∷ []) → ReadAs implication text m ns ns₁ p →
-    Bytes text p.next n (41 ∷ []) → ReadAs unary text at ns ns₁ (record { node = p.node; next = n })
-in_brackets {text = text} {n = n} {ns₁ = ns₁} {p = p} o r k =
-    let b = o followed-by read_bytes r followed-by k in
+pub in_brackets : {r r₁ r₂ r₃ : Reader} {p : ℕ} → Crosses Open r r₁ → ReadAs implication r₁ r₂ p → Crosses Close r₂ r₃ → ReadAs unary r r₃ p
+in_brackets {r = r} {r₁ = r₁} {r₂ = r₂} {r₃ = r₃} {p = p} o f k =
+    let b = byte 40 o (stands o) followed-by read_bytes f followed-by byte 41 k (stands k) in
+    let first : length (nodes_of r₁) ≡ length (nodes_of r) = ap length o.step.same_nodes in
+    let last : length (nodes_of r₃) ≡ length (nodes_of r₂) = ap length k.step.same_nodes in
     record {
+      same_text = b.same_text;
       ahead = b.ahead;
-      within = b.within;
-      made = r.made;
-      grown = r.grown;
-      few = omega (arith, r.few, o.ahead, k.ahead);
-      spells = subst (Spells unary (get_or (trees ns₁) p.node one)) (sym b.are) (bracket_text r.spells);
-      stops = every_loose (sign_from (drop n text));
+      made = omega (arith, f.made);
+      grown = (f.grown.0, k.step.same_nodes ∙ f.grown.1 ∙ ap (λ x. x ++ f.grown.0) o.step.same_nodes);
+      few = omega (arith, f.few, o.step.at, k.step.at);
+      spells = subst (λ x. Spells unary (tree_at x p) (passed r r₃)) (sym k.step.same_nodes)
+          (subst (Spells unary (tree_at (nodes_of r₂) p)) (sym b.are) (bracket_text f.spells));
+      stops = every_loose (sign_from (rest r₃));
     }
 
 -- Faults.
 
 -- a part that is read leads the pass past it
-pub over : {l : Level} {text : List ℕ} {at : ℕ} {ns ns' : List Node} {p : Parsed} {s z : State} → ReadAs l text at ns ns' p →
-    Leads s (part text at p.next) z → scan at s (drop at text) ≡ scan p.next z (drop p.next text)
-over {text = text} {at = at} {p = p} {s = s} {z = z} r g =
-    let h : at ≤ p.next = omega (arith, r.ahead) in
-    ap (scan at s) (sym (part_rest text at p.next h)) ∙ g.same at (drop p.next text)
-    ∙ ap (λ n. scan n z (drop p.next text)) (part_length text at p.next h r.within)
+pub over : {l : Level} {r r' : Reader} {p : ℕ} {s z : State} → ReadAs l r r' p → Leads s (passed r r') z → outcome r s ≡ outcome r' z
+over {r = r} {r' = r'} {s = s} {z = z} f g =
+    let h : r.at ≤ r'.at = omega (arith, f.ahead) in
+    let k : r'.at ≤ length r.text.now = omega (arith, r'.within, ap length f.same_text) in
+    ap (scan r.at s) (sym (part_rest r.text.now r.at r'.at h)) ∙ g.same r.at (drop r'.at r.text.now)
+    ∙ ap (λ n. scan n z (drop r'.at r.text.now)) (part_length r.text.now r.at r'.at h k) ∙ ap (λ t. scan r'.at z (drop r'.at t)) (sym f.same_text)
 
 -- one step of the pass, by the sign
 abbrev pub by_sign : State → Sign → State
@@ -263,29 +276,32 @@ step_by_sign (after i d c t v fs) b = refl
 step_by_sign (arrow i d c t v fs) b = refl
 step_by_sign stuck b = refl
 
-pub stepped : {text : List ℕ} {n : ℕ} {g : Sign} (s : State) → Here text n g →
-    scan n s (drop n text) ≡ unless_stuck n (by_sign s g) (scan (n + 1) (by_sign s g) (drop (n + 1) text))
+pub stepped : {g : Sign} {r r' : Reader} (s : State) → Crosses g r r' → outcome r s ≡ unless_stuck r.at (by_sign s g) (outcome r' (by_sign s g))
 unfolding scan
-stepped {text = text} {n = n} s h =
-    at_drop_more (scan n s) text n 0 h.lies
-    ∙ ap (λ z. unless_stuck n z (scan (n + 1) z (drop (n + 1) text))) (step_by_sign s (get_or text n 0) ∙ ap (by_sign s) h.sign)
+stepped {g = g} {r = r} {r' = r'} s h =
+    let e : scan (r.at + 1) (by_sign s g) (drop (r.at + 1) r.text.now) ≡ outcome r' (by_sign s g) = cc (h.step.at, h.step.same_text) in
+    at_drop_more (scan r.at s) r.text.now r.at 0 h.lies
+    ∙ ap (λ z. unless_stuck r.at z (scan (r.at + 1) z (drop (r.at + 1) r.text.now))) (step_by_sign s (get_or r.text.now r.at 0) ∙ ap (by_sign s) h.sign)
+    ∙ ap (unless_stuck r.at (by_sign s g)) e
 
 -- at a sign that leads nowhere
-pub stuck_at : (text : List ℕ) (n : ℕ) (s : State) → n < length text → by_sign s (sign_from (drop n text)) ≡ stuck → scan n s (drop n text) ≡ Err (Unexpected n)
-stuck_at text n s l e =
-    let g = at_drop_more (λ w. by_sign s (sign_from w)) text n 0 l in
-    stepped s (record { lies = l; sign = refl }) ∙ ap (λ z. unless_stuck n z (scan (n + 1) z (drop (n + 1) text))) (sym g ∙ e)
+pub stuck_at : (r : Reader) (s : State) → r.at < length r.text.now → by_sign s (sign_from (rest r)) ≡ stuck → outcome r s ≡ Err (Unexpected r.at)
+unfolding scan
+stuck_at r s l e =
+    let g = at_drop_more (λ w. by_sign s (sign_from w)) r.text.now r.at 0 l in
+    at_drop_more (scan r.at s) r.text.now r.at 0 l
+    ∙ ap (λ z. unless_stuck r.at z (scan (r.at + 1) z (drop (r.at + 1) r.text.now))) (step_by_sign s (get_or r.text.now r.at 0) ∙ sym g ∙ e)
 
 -- at such a sign, or at the end of the text
-pub unwanted_at : (text : List ℕ) (n : ℕ) {f : TextFault} (s : State) → n ≤ length text → by_sign s (sign_from (drop n text)) ≡ stuck → ended n s ≡ Err (Incomplete n) →
-    f ≡ cond (ltb n (length text)) (Unexpected n) (Incomplete (length text)) → scan n s (drop n text) ≡ Err f
+pub unwanted_at : (r : Reader) {g : Sign} {f : TextFault} (s : State) → g ≡ sign_from (rest r) → by_sign s g ≡ stuck → ended r.at s ≡ Err (Incomplete r.at) →
+    f ≡ cond (ltb r.at (length r.text.now)) (Unexpected r.at) (Incomplete (length r.text.now)) → outcome r s ≡ Err f
 unfolding scan
-unwanted_at text n s h e k q =
+unwanted_at r s e h k q =
     ⊎_elim
-    (λ l. stuck_at text n s l e ∙ ap Err (sym (q ∙ cond-true _ _ _ (lt-ltb n (length text) l))))
-    (λ l. let m : n ≡ length text = omega arith in
-    at_drop_all (scan n s) text n l ∙ k ∙ ap Err (ap Incomplete m ∙ sym (q ∙ cond-false _ _ _ (le-ltb n (length text) l))))
-    (cases_lt n (length text))
+    (λ l. stuck_at r s l (ap (by_sign s) (sym e) ∙ h) ∙ ap Err (sym (q ∙ cond-true _ _ _ (lt-ltb r.at (length r.text.now) l))))
+    (λ l. let m : r.at ≡ length r.text.now = omega (arith, r.within) in
+    at_drop_all (scan r.at s) r.text.now r.at l ∙ k ∙ ap Err (ap Incomplete m ∙ sym (q ∙ cond-false _ _ _ (le-ltb r.at (length r.text.now) l))))
+    (cases_lt r.at (length r.text.now))
 
 -- no part begins with another sign
 pub begins_none : (i d c t u : Pending) (fs : List Frame) (g : Sign) → (g ≡ Not → ⊥) → (g ≡ Next → ⊥) → (g ≡ Always → ⊥) → (g ≡ Eventually → ⊥) →
@@ -364,77 +380,75 @@ close_none i d c t v Zero h = refl
 close_none i d c t v (Letter k) h = refl
 close_none i d c t v Other h = refl
 
--- where the part after a sign fails, the whole fails
-pub signed_fails : {text : List ℕ} {at : ℕ} {f : TextFault} {g : Sign} (P : Pending) →
-    ((i d c t u : Pending) (fs : List Frame) → by_sign (before i d c t u fs) g ≡ before i d c t (λ x. u (P x)) fs) →
-    Here text at g → Fails unary text (at + 1) f → Fails unary text at f
-signed_fails {text = text} {at = at} P e h k i d c t u fs =
-    stepped _ h ∙ ap (λ z. unless_stuck at z (scan (at + 1) z (drop (at + 1) text))) (e i d c t u fs) ∙ k i d c t (λ x. u (P x)) fs
+-- the fault that `?` hands on
+pub handed_on : {f : TextFault} (res : Result ℕ TextFault) → IsErrAnd res (λ y. y ≡ f) → res ≡ Err f
+handed_on (Ok n) h = absurd h
+handed_on (Err y) h = ap Err h
 
-pub bracket_fails : {text : List ℕ} {at : ℕ} {f : TextFault} → Here text at Open → Fails implication text (at + 1) f → Fails unary text at f
+-- where the part after a sign fails, the whole fails
+pub signed_fails : {r r' : Reader} {f : TextFault} {g : Sign} (P : Pending) →
+    ((i d c t u : Pending) (fs : List Frame) → by_sign (before i d c t u fs) g ≡ before i d c t (λ x. u (P x)) fs) →
+    Crosses g r r' → Fails unary r' f → Fails unary r f
+signed_fails {r = r} {r' = r'} P e h k i d c t u fs =
+    stepped _ h ∙ ap (λ z. unless_stuck r.at z (outcome r' z)) (e i d c t u fs) ∙ k i d c t (λ x. u (P x)) fs
+
+pub bracket_fails : {r r' : Reader} {f : TextFault} → Crosses Open r r' → Fails implication r' f → Fails unary r f
 bracket_fails h k i d c t u fs = stepped _ h ∙ k nothing (record { imp = i; dis = d; con = c; tem = t; una = u } ∷ fs)
 
-module _ {text : List ℕ} {at : ℕ} {ns ns' : List Node} {p : Parsed} {f : TextFault} where
+module _ {r r₁ r₂ : Reader} {p : ℕ} {f : TextFault} where
   pub temporal_fails : {g : Sign} (J : Tree → Tree → Tree) →
       ((i d c t : Pending) (v : Tree) (fs : List Frame) → by_sign (after i d c t v fs) g ≡ before i d c (λ x. t (J v x)) nothing fs) →
-      ReadAs unary text at ns ns' p → Here text p.next g → Fails temporal text (p.next + 1) f → Fails temporal text at f
-  temporal_fails J e r h k i d c t fs =
-      let v : Tree = get_or (trees ns') p.node one in
-      over r (through r.spells i d c t nothing fs) ∙ stepped (after i d c t v fs) h
-      ∙ ap (λ z. unless_stuck p.next z (scan (p.next + 1) z (drop (p.next + 1) text))) (e i d c t v fs) ∙ k i d c (λ x. t (J v x)) fs
+      ReadAs unary r r₁ p → Crosses g r₁ r₂ → Fails temporal r₂ f → Fails temporal r f
+  temporal_fails J e a h k i d c t fs =
+      let v : Tree = tree_at (nodes_of r₁) p in
+      over a (through a.spells i d c t nothing fs) ∙ stepped (after i d c t v fs) h
+      ∙ ap (λ z. unless_stuck r₁.at z (outcome r₂ z)) (e i d c t v fs) ∙ k i d c (λ x. t (J v x)) fs
 
-  pub and_fails : ReadAs temporal text at ns ns' p → Here text p.next And → Fails conjunction text (p.next + 1) f → Fails conjunction text at f
-  and_fails r h k i d c fs =
-      let l = through r.spells i d c nothing fs in
-      over r l.3 ∙ stepped (after i d c l.0 l.1 fs) h ∙ k i d (λ x. c (and (l.0 l.1) x)) fs
+  pub and_fails : ReadAs temporal r r₁ p → Crosses And r₁ r₂ → Fails conjunction r₂ f → Fails conjunction r f
+  and_fails a h k i d c fs =
+      let l = through a.spells i d c nothing fs in
+      over a l.3 ∙ stepped (after i d c l.0 l.1 fs) h ∙ k i d (λ x. c (and (l.0 l.1) x)) fs
 
-  pub or_fails : ReadAs conjunction text at ns ns' p → Here text p.next Or → Fails disjunction text (p.next + 1) f → Fails disjunction text at f
-  or_fails r h k i d fs =
-      let l = through r.spells i d nothing fs in
-      over r l.4 ∙ stepped (after i d l.0 l.1 l.2 fs) h ∙ k i (λ x. d (or (l.0 (l.1 l.2)) x)) fs
+  pub or_fails : ReadAs conjunction r r₁ p → Crosses Or r₁ r₂ → Fails disjunction r₂ f → Fails disjunction r f
+  or_fails a h k i d fs =
+      let l = through a.spells i d nothing fs in
+      over a l.4 ∙ stepped (after i d l.0 l.1 l.2 fs) h ∙ k i (λ x. d (or (l.0 (l.1 l.2)) x)) fs
 
-  pub implies_fails : ReadAs disjunction text at ns ns' p → Here text p.next Minus → Here text (p.next + 1) Greater →
-      Fails implication text (p.next + 2) f → Fails implication text at f
-  implies_fails r h g k i fs =
-      let l = through r.spells i nothing fs in
-      let e : p.next + 1 + 1 ≡ p.next + 2 = omega arith in
-      over r l.5 ∙ stepped (after i l.0 l.1 l.2 l.3 fs) h ∙ stepped (arrow i l.0 l.1 l.2 l.3 fs) g
-      ∙ ap (λ n. scan n (before (λ x. i (implies (l.0 (l.1 (l.2 l.3))) x)) nothing nothing nothing nothing fs) (drop n text)) e
-      ∙ k (λ x. i (implies (l.0 (l.1 (l.2 l.3))) x)) fs
+  pub implies_fails : {r₃ : Reader} → ReadAs disjunction r r₁ p → Crosses Minus r₁ r₂ → Crosses Greater r₂ r₃ → Fails implication r₃ f → Fails implication r f
+  implies_fails a h g k i fs =
+      let l = through a.spells i nothing fs in
+      over a l.5 ∙ stepped (after i l.0 l.1 l.2 l.3 fs) h ∙ stepped (arrow i l.0 l.1 l.2 l.3 fs) g ∙ k (λ x. i (implies (l.0 (l.1 (l.2 l.3))) x)) fs
 
   -- an arrow that is not one
-  pub no_arrow : {g : Sign} → ReadAs disjunction text at ns ns' p → Here text p.next Minus → g ≡ sign_from (drop (p.next + 1) text) → (g ≡ Greater → ⊥) →
-      f ≡ cond (ltb (p.next + 1) (length text)) (Unexpected (p.next + 1)) (Incomplete (length text)) → Fails implication text at f
-  no_arrow r h e n q i fs =
-      let l = through r.spells i nothing fs in
-      let s : State = arrow i l.0 l.1 l.2 l.3 fs in
-      over r l.5 ∙ stepped (after i l.0 l.1 l.2 l.3 fs) h
-      ∙ unwanted_at text (p.next + 1) s (omega (arith, h.lies)) (subst (λ g. by_sign s g ≡ stuck) e (arrow_only i l.0 l.1 l.2 l.3 fs _ n)) refl q
+  pub no_arrow : {g : Sign} → ReadAs disjunction r r₁ p → Crosses Minus r₁ r₂ → g ≡ sign_from (rest r₂) → (g ≡ Greater → ⊥) →
+      f ≡ cond (ltb r₂.at (length r₂.text.now)) (Unexpected r₂.at) (Incomplete (length r₂.text.now)) → Fails implication r f
+  no_arrow a h e n q i fs =
+      let l = through a.spells i nothing fs in
+      over a l.5 ∙ stepped (after i l.0 l.1 l.2 l.3 fs) h ∙ unwanted_at r₂ (arrow i l.0 l.1 l.2 l.3 fs) e (arrow_only i l.0 l.1 l.2 l.3 fs _ n) refl q
 
   -- a bracket that is not closed
-  pub unclosed : {g : Sign} → Here text at Open → ReadAs implication text (at + 1) ns ns' p → g ≡ sign_from (drop p.next text) → (g ≡ Close → ⊥) →
-      f ≡ cond (ltb p.next (length text)) (Unexpected p.next) (Incomplete (length text)) → Fails unary text at f
-  unclosed h r e n q i d c t u fs =
+  pub unclosed : {g : Sign} → Crosses Open r r₁ → ReadAs implication r₁ r₂ p → g ≡ sign_from (rest r₂) → (g ≡ Close → ⊥) →
+      f ≡ cond (ltb r₂.at (length r₂.text.now)) (Unexpected r₂.at) (Incomplete (length r₂.text.now)) → Fails unary r f
+  unclosed h a e n q i d c t u fs =
       let gs : List Frame = record { imp = i; dis = d; con = c; tem = t; una = u } ∷ fs in
-      let l = through r.spells nothing gs in
-      let s : State = after l.0 l.1 l.2 l.3 l.4 gs in
-      stepped _ h ∙ over r l.6
-      ∙ unwanted_at text p.next s r.within (close_only l.0 l.1 l.2 l.3 l.4 gs _ r.stops (λ x. n (e ∙ x))) refl q
+      let l = through a.spells nothing gs in
+      stepped _ h ∙ over a l.6
+      ∙ unwanted_at r₂ (after l.0 l.1 l.2 l.3 l.4 gs) e (close_only l.0 l.1 l.2 l.3 l.4 gs _ (subst (λ g. 4 < looseness g) (sym e) a.stops) n) refl q
 
 -- nothing that begins a part
-pub none_begins : (text : List ℕ) (at : ℕ) {f : TextFault} {g : Sign} → at ≤ length text → g ≡ sign_from (drop at text) →
+pub none_begins : (r : Reader) {f : TextFault} {g : Sign} → g ≡ sign_from (rest r) →
     ((i d c t u : Pending) (fs : List Frame) → by_sign (before i d c t u fs) g ≡ stuck) →
-    f ≡ cond (ltb at (length text)) (Unexpected at) (Incomplete (length text)) → Fails unary text at f
-none_begins text at h e n q i d c t u fs =
-    unwanted_at text at (before i d c t u fs) h (subst (λ g. by_sign (before i d c t u fs) g ≡ stuck) e (n i d c t u fs)) refl q
+    f ≡ cond (ltb r.at (length r.text.now)) (Unexpected r.at) (Incomplete (length r.text.now)) → Fails unary r f
+none_begins r e n q i d c t u fs = unwanted_at r (before i d c t u fs) e (n i d c t u fs) refl q
 
 -- all of a text
-pub whole_text : {l : Level} {text : List ℕ} {ns ns' : List Node} {p : Parsed} → ReadAs l text 0 ns ns' p → length text ≤ p.next → Spells l (tree_at ns' p.node) text
-whole_text {l = l} {text = text} {ns' = ns'} {p = p} r h = subst (Spells l (tree_at ns' p.node)) (take_all (p.next - 0) text (omega arith)) r.spells
+pub whole_text : {l : Level} {r r' : Reader} {p : ℕ} → ReadAs l r r' p → r.at ≡ 0 → length r.text.now ≤ r'.at → Spells l (tree_at (nodes_of r') p) r.text.now
+whole_text {l = l} {r = r} {r' = r'} {p = p} a z h =
+    let all : passed r r' ≡ r.text.now = ap (λ n. take (r'.at - n) (drop n r.text.now)) z ∙ take_all (r'.at - 0) r.text.now (omega arith) in
+    subst (Spells l (tree_at (nodes_of r') p)) all a.spells
 
 -- more after the whole
-pub more_follows : {text : List ℕ} {ns ns' : List Node} {p : Parsed} → ReadAs implication text 0 ns ns' p → p.next < length text →
-    scan 0 start text ≡ Err (Unexpected p.next)
-more_follows {text = text} {p = p} r h =
-    let l = through r.spells nothing [] in
-    over r l.6 ∙ stuck_at text p.next (after l.0 l.1 l.2 l.3 l.4 []) h (close_none l.0 l.1 l.2 l.3 l.4 _ r.stops)
+pub more_follows : {r r' : Reader} {p : ℕ} → ReadAs implication r r' p → r'.at < length r.text.now → outcome r start ≡ Err (Unexpected r'.at)
+more_follows {r' = r'} a h =
+    let l = through a.spells nothing [] in
+    over a l.6 ∙ stuck_at r' (after l.0 l.1 l.2 l.3 l.4 []) (omega (arith, ap length a.same_text)) (close_none l.0 l.1 l.2 l.3 l.4 _ a.stops)

@@ -1,15 +1,15 @@
 -- What the functions of the five levels answer. Assumes nothing.
-use Rattle.std.specs.Prelude.{◌≡◌, ℕ, ◌+◌, ◌-◌, ◌<◌, ◌≤◌, List, ◌++◌, length, take, drop, Ok, Err, Result, slice_index_or}
-use Rattle.pltl.specs.Formulas.{one}
+use Rattle.std.specs.Prelude.{◌≡◌, ℕ, ◌+◌, ◌-◌, ◌<◌, ◌≤◌, List, ◌++◌, length, take, drop, Ok, Err, Result}
+use Rattle.pltl.specs.Formulas.{Tree}
 use Rattle.texts.specs.declared.Sign.{Sign}
 use Rattle.texts.specs.declared.Sign.TheVariants.{Not, Next, Always, Eventually, Until, Release, And, Or, Minus, Greater, Open, Close, One, Zero, Letter, Other}
 use Rattle.texts.specs.declared.faults.TextFault.{TextFault}
-use Rattle.texts.specs.declared.levels.Parsed.{Parsed}
+use Rattle.texts.specs.declared.levels.Reader.{Reader}
 use Rattle.texts.specs.declared.nodes.Node.{Node}
 use Rattle.texts.specs.Grammar.{Level, implication, disjunction, conjunction, temporal, unary, Spells}
-use Rattle.texts.specs.Scan.{Pending, nothing, Frame, before, scan}
+use Rattle.texts.specs.Scan.{Pending, nothing, Frame, State, before, scan}
 use Rattle.texts.specs.Signs.{sign_from}
-use Rattle.texts.specs.Syntax.{trees}
+use Rattle.texts.specs.Syntax.{tree_at}
 
 -- how loosely a level binds, and how loosely the sign that follows does
 abbrev pub rank : Level → ℕ
@@ -37,25 +37,46 @@ looseness Zero = 5
 looseness (Letter k) = 5
 looseness Other = 5
 
--- the part of the text from `at` is read up to `p.next`, into the nodes ns', which were ns
-pub record ReadAs (l : Level) (text : List ℕ) (at : ℕ) (ns ns' : List Node) (p : Parsed) : Type 0 where
-  pub ahead : at < p.next
-  pub within : p.next ≤ length text
-  pub made : p.node < length ns'
-  pub grown : (more : List Node) × (ns' ≡ ns ++ more)
-  pub few : length ns' + at ≤ length ns + p.next
-  pub spells : Spells l (slice_index_or (trees ns') p.node one) (take (p.next - at) (drop at text))
+-- the bytes that a reader has before it, and its nodes
+abbrev pub rest : Reader → List ℕ
+rest r = drop r.at r.text.now
+
+abbrev pub nodes_of : Reader → List Node
+nodes_of r = r.syntax.now.nodes.items
+
+-- the bytes from where r stands up to where r' stands
+abbrev pub passed : Reader → Reader → List ℕ
+passed r r' = take (r'.at - r.at) (rest r)
+
+-- r' is r over one byte
+pub record Steps (r r' : Reader) : Type 0 where
+  pub same_text : r'.text.now ≡ r.text.now
+  pub same_nodes : nodes_of r' ≡ nodes_of r
+  pub at : r'.at ≡ r.at + 1
+
+-- r' is r over a part of the text, which is the node's tree
+pub record ReadAs (l : Level) (r r' : Reader) (node : ℕ) : Type 0 where
+  pub same_text : r'.text.now ≡ r.text.now
+  pub ahead : r.at < r'.at
+  pub made : node < length (nodes_of r')
+  pub grown : (more : List Node) × (nodes_of r' ≡ nodes_of r ++ more)
+  pub few : length (nodes_of r') + r.at ≤ length (nodes_of r) + r'.at
+  pub spells : Spells l (tree_at (nodes_of r') node) (passed r r')
   -- no sign follows that goes on at the level
-  pub stops : rank l < looseness (sign_from (drop p.next text))
+  pub stops : rank l < looseness (sign_from (rest r'))
 
--- the pass from `at` on, before a part at the level, comes to the fault f
-abbrev pub Fails : Level → List ℕ → ℕ → TextFault → Type 0
-Fails unary text at f = (i d c t u : Pending) (fs : List Frame) → scan at (before i d c t u fs) (drop at text) ≡ Err f
-Fails temporal text at f = (i d c t : Pending) (fs : List Frame) → scan at (before i d c t nothing fs) (drop at text) ≡ Err f
-Fails conjunction text at f = (i d c : Pending) (fs : List Frame) → scan at (before i d c nothing nothing fs) (drop at text) ≡ Err f
-Fails disjunction text at f = (i d : Pending) (fs : List Frame) → scan at (before i d nothing nothing nothing fs) (drop at text) ≡ Err f
-Fails implication text at f = (i : Pending) (fs : List Frame) → scan at (before i nothing nothing nothing nothing fs) (drop at text) ≡ Err f
+-- the outcome of the pass over the rest, from a state
+abbrev pub outcome : Reader → State → Result Tree TextFault
+outcome r s = scan r.at s (rest r)
 
-abbrev pub Parses : Level → List ℕ → ℕ → List Node → List Node → Result Parsed TextFault → Type 0
-Parses l text at ns ns' (Ok p) = ReadAs l text at ns ns' p
-Parses l text at ns ns' (Err f) = Fails l text at f
+-- before a part at the level, the pass over the rest comes to the fault f
+abbrev pub Fails : Level → Reader → TextFault → Type 0
+Fails unary r f = (i d c t u : Pending) (fs : List Frame) → outcome r (before i d c t u fs) ≡ Err f
+Fails temporal r f = (i d c t : Pending) (fs : List Frame) → outcome r (before i d c t nothing fs) ≡ Err f
+Fails conjunction r f = (i d c : Pending) (fs : List Frame) → outcome r (before i d c nothing nothing fs) ≡ Err f
+Fails disjunction r f = (i d : Pending) (fs : List Frame) → outcome r (before i d nothing nothing nothing fs) ≡ Err f
+Fails implication r f = (i : Pending) (fs : List Frame) → outcome r (before i nothing nothing nothing nothing fs) ≡ Err f
+
+abbrev pub Parses : Level → Reader → Reader → Result ℕ TextFault → Type 0
+Parses l r r' (Ok node) = ReadAs l r r' node
+Parses l r r' (Err f) = Fails l r f

@@ -1,203 +1,207 @@
 // The lexer, and the five levels of the grammar.
-ghost use Rattle.std.specs.Prelude.{◌≡◌, ◌+◌, ◌<◌, ◌≤◌, true, [], ◌∷◌, ◌++◌, length, drop, if◌then◌else◌, vec_len, nat_lt};
-ghost use Rattle.texts.specs.declared.Sign.TheVariants.{Open};
+ghost use Rattle.std.specs.Prelude.{◌≡◌, ◌<◌, ◌≤◌, length, drop, if◌then◌else◌, vec_len, nat_lt};
 ghost use Rattle.texts.specs.declared.faults.TextFault.TheVariants.{Unexpected, Incomplete};
-ghost use Rattle.texts.specs.Grammar.{implication, disjunction, conjunction, temporal, unary};
-ghost use Rattle.texts.specs.Parsing.{Parses};
 ghost use Rattle.texts.specs.Reading.{Reads};
 ghost use Rattle.texts.specs.Scan.{reading};
 ghost use Rattle.texts.specs.Signs.{classified, sign_from};
-ghost use Rattle.texts.specs.Syntax.{below, answered};
+ghost use Rattle.texts.specs.Syntax.{answered};
 
 use super::Sign;
 use super::faults::TextFault;
 use super::nodes::{LONGEST, Node, Syntax};
 
-// Which sign a byte is.
-fn sign(b: u8) -> Sign
-    ensures { result ≡ classified b }
-{
-    match b as char {
-        '!' => Sign::Not,
-        'X' => Sign::Next,
-        'G' => Sign::Always,
-        'F' => Sign::Eventually,
-        'U' => Sign::Until,
-        'R' => Sign::Release,
-        '&' => Sign::And,
-        '|' => Sign::Or,
-        '-' => Sign::Minus,
-        '>' => Sign::Greater,
-        '(' => Sign::Open,
-        ')' => Sign::Close,
-        '1' => Sign::One,
-        '0' => Sign::Zero,
-        'a'..='z' => Sign::Letter(b - b'a'),
-        _ => Sign::Other,
+impl Sign {
+    // Which sign a byte is.
+    fn of(byte: u8) -> Sign
+        ensures { result ≡ classified byte }
+    {
+        match byte as char {
+            '!' => Sign::Not,
+            'X' => Sign::Next,
+            'G' => Sign::Always,
+            'F' => Sign::Eventually,
+            'U' => Sign::Until,
+            'R' => Sign::Release,
+            '&' => Sign::And,
+            '|' => Sign::Or,
+            '-' => Sign::Minus,
+            '>' => Sign::Greater,
+            '(' => Sign::Open,
+            ')' => Sign::Close,
+            '1' => Sign::One,
+            '0' => Sign::Zero,
+            'a'..='z' => Sign::Letter(byte - b'a'),
+            _ => Sign::Other,
+        }
     }
 }
 
-// The sign at an offset; the end of the text is none.
-fn sign_at(text: &[u8], at: usize) -> Sign
-    ensures { result ≡ sign_from (drop at text.now) }
-{
-    if at < text.len() {
-        sign(text[at])
-    } else {
-        Sign::Other
+// A text, how far it is read, and the syntax that the nodes of what was read go into.
+#[derive(Drop)]
+struct Reader<'text, 'syntax> {
+    text: &'text [u8],
+    at: usize,
+    syntax: &'syntax mut Syntax,
+    ghost short: { length text.now ≤ 512 },
+    ghost within: { at ≤ length text.now },
+    ghost few: { vec_len syntax.now.nodes ≤ at },
+}
+
+impl<'text, 'syntax> Reader<'text, 'syntax> {
+    ghost use Rattle.texts.specs.Grammar.{implication, disjunction, conjunction, temporal, unary};
+    ghost use Rattle.texts.specs.Parsing.{Parses, Steps};
+
+    // The sign that comes next; the end of the text is none.
+    fn sign(&self) -> Sign
+        ensures { result ≡ sign_from (drop self.now.at self.now.text.now) }
+    {
+        match self.text.get(self.at) {
+            Some(byte) => Sign::of(*byte),
+            None => Sign::Other,
+        }
     }
-}
 
-// A part of the text that was read: the node of its tree, and the offset of what follows it.
-#[derive(Clone, Copy)]
-pub struct Parsed {
-    node: usize,
-    next: usize,
-}
-
-// Adds a node for the part that ends before `next`.
-fn made(out: &mut Syntax, node: Node, next: usize) -> Parsed
-    requires room { vec_len out.old.nodes < 512 }
-    requires parts { below (vec_len out.old.nodes) node ≡ true }
-    ensures value { result ≡ record { node = vec_len out.old.nodes; next = next } }
-    ensures items { out.new.nodes.items ≡ out.old.nodes.items ++ node ∷ [] }
-{
-    let node = out.push(node);
-    Parsed { node, next }
-}
-
-// The fault where another sign was wanted at an offset: the text ends there, or goes on otherwise.
-fn unwanted(text: &[u8], at: usize) -> TextFault
-    ensures { result ≡ (if nat_lt at (length text.now) then Unexpected at else Incomplete (length text.now)) }
-{
-    if at < text.len() {
-        TextFault::Unexpected(at)
-    } else {
-        TextFault::Incomplete(text.len())
+    // Steps over the sign that comes next.
+    fn step(&mut self)
+        requires { self.old.at < length self.old.text.now }
+        ensures same_syntax { self.new.syntax.ghost_name ≡ self.old.syntax.ghost_name }
+        ensures steps { Steps self.old self.new }
+    {
+        self.at += 1;
     }
-}
 
-// implication: disjunction, or disjunction `->` implication
-#[cycle(and_bracketed_imp_or_tem_una)]
-fn imp(text: &[u8], at: usize, out: &mut Syntax) -> Result<Parsed, TextFault>
-    requires within { at ≤ length text.now }
-    requires short { length text.now ≤ 512 }
-    requires few { vec_len out.old.nodes ≤ at }
-    ensures { Parses implication text.now at out.old.nodes.items out.new.nodes.items result }
-{
-    let left = or(text, at, out)?;
-    let Sign::Minus = sign_at(text, left.next) else {
-        return Ok(left);
-    };
-    let Sign::Greater = sign_at(text, left.next + 1) else {
-        return Err(unwanted(text, left.next + 1));
-    };
-    let right = imp(text, left.next + 2, out)?;
-    Ok(made(out, Node::Implies(left.node, right.node), right.next))
-}
-
-// disjunction: conjunction, or conjunction `|` disjunction
-#[cycle(and_bracketed_imp_or_tem_una)]
-fn or(text: &[u8], at: usize, out: &mut Syntax) -> Result<Parsed, TextFault>
-    requires within { at ≤ length text.now }
-    requires short { length text.now ≤ 512 }
-    requires few { vec_len out.old.nodes ≤ at }
-    ensures { Parses disjunction text.now at out.old.nodes.items out.new.nodes.items result }
-{
-    let left = and(text, at, out)?;
-    let Sign::Or = sign_at(text, left.next) else {
-        return Ok(left);
-    };
-    let right = or(text, left.next + 1, out)?;
-    Ok(made(out, Node::Or(left.node, right.node), right.next))
-}
-
-// conjunction: temporal, or temporal `&` conjunction
-#[cycle(and_bracketed_imp_or_tem_una)]
-fn and(text: &[u8], at: usize, out: &mut Syntax) -> Result<Parsed, TextFault>
-    requires within { at ≤ length text.now }
-    requires short { length text.now ≤ 512 }
-    requires few { vec_len out.old.nodes ≤ at }
-    ensures { Parses conjunction text.now at out.old.nodes.items out.new.nodes.items result }
-{
-    let left = tem(text, at, out)?;
-    let Sign::And = sign_at(text, left.next) else {
-        return Ok(left);
-    };
-    let right = and(text, left.next + 1, out)?;
-    Ok(made(out, Node::And(left.node, right.node), right.next))
-}
-
-// temporal: unary, or unary `U` temporal, or unary `R` temporal
-#[cycle(and_bracketed_imp_or_tem_una)]
-fn tem(text: &[u8], at: usize, out: &mut Syntax) -> Result<Parsed, TextFault>
-    requires within { at ≤ length text.now }
-    requires short { length text.now ≤ 512 }
-    requires few { vec_len out.old.nodes ≤ at }
-    ensures { Parses temporal text.now at out.old.nodes.items out.new.nodes.items result }
-{
-    let left = una(text, at, out)?;
-    match sign_at(text, left.next) {
-        Sign::Until => {
-            let right = tem(text, left.next + 1, out)?;
-            Ok(made(out, Node::Until(left.node, right.node), right.next))
+    // The fault where another sign was wanted next: the text ends there, or goes on otherwise.
+    fn unwanted(&self) -> TextFault
+        ensures { result ≡ (if nat_lt self.now.at (length self.now.text.now) then Unexpected self.now.at else Incomplete (length self.now.text.now)) }
+    {
+        if self.at < self.text.len() {
+            TextFault::Unexpected(self.at)
+        } else {
+            TextFault::Incomplete(self.text.len())
         }
-        Sign::Release => {
-            let right = tem(text, left.next + 1, out)?;
-            Ok(made(out, Node::Release(left.node, right.node), right.next))
-        }
-        _ => Ok(left),
     }
-}
 
-// unary: a one-sided sign and a unary, a letter, a constant, or (implication)
-#[cycle(and_bracketed_imp_or_tem_una)]
-fn una(text: &[u8], at: usize, out: &mut Syntax) -> Result<Parsed, TextFault>
-    requires within { at ≤ length text.now }
-    requires short { length text.now ≤ 512 }
-    requires few { vec_len out.old.nodes ≤ at }
-    ensures { Parses unary text.now at out.old.nodes.items out.new.nodes.items result }
-{
-    match sign_at(text, at) {
-        Sign::Not => {
-            let part = una(text, at + 1, out)?;
-            Ok(made(out, Node::Not(part.node), part.next))
-        }
-        Sign::Next => {
-            let part = una(text, at + 1, out)?;
-            Ok(made(out, Node::Next(part.node), part.next))
-        }
-        Sign::Always => {
-            let part = una(text, at + 1, out)?;
-            Ok(made(out, Node::Always(part.node), part.next))
-        }
-        Sign::Eventually => {
-            let part = una(text, at + 1, out)?;
-            Ok(made(out, Node::Eventually(part.node), part.next))
-        }
-        Sign::One => Ok(made(out, Node::One, at + 1)),
-        Sign::Zero => Ok(made(out, Node::Zero, at + 1)),
-        Sign::Letter(k) => Ok(made(out, Node::Letter(k), at + 1)),
-        Sign::Open => bracketed(text, at, out),
-        _ => Err(unwanted(text, at)),
+    // implication: disjunction, or disjunction `->` implication
+    #[cycle(levels)]
+    fn implication(&mut self) -> Result<usize, TextFault>
+        ensures same_syntax { self.new.syntax.ghost_name ≡ self.old.syntax.ghost_name }
+        ensures reads { Parses implication self.old self.new result }
+    {
+        let left = self.disjunction()?;
+        let Sign::Minus = self.sign() else {
+            return Ok(left);
+        };
+        self.step();
+        let Sign::Greater = self.sign() else {
+            return Err(self.unwanted());
+        };
+        self.step();
+        let right = self.implication()?;
+        Ok(self.syntax.push(Node::Implies(left, right)))
     }
-}
 
-// a bracket at `at`, an implication, and the closing bracket
-#[cycle(and_bracketed_imp_or_tem_una)]
-fn bracketed(text: &[u8], at: usize, out: &mut Syntax) -> Result<Parsed, TextFault>
-    requires open { sign_from (drop at text.now) ≡ Open }
-    requires short { length text.now ≤ 512 }
-    requires few { vec_len out.old.nodes ≤ at }
-    ensures { Parses unary text.now at out.old.nodes.items out.new.nodes.items result }
-{
-    let inner = imp(text, at + 1, out)?;
-    match sign_at(text, inner.next) {
-        Sign::Close => Ok(Parsed {
-            node: inner.node,
-            next: inner.next + 1,
-        }),
-        _ => Err(unwanted(text, inner.next)),
+    // disjunction: conjunction, or conjunction `|` disjunction
+    #[cycle(levels)]
+    fn disjunction(&mut self) -> Result<usize, TextFault>
+        ensures same_syntax { self.new.syntax.ghost_name ≡ self.old.syntax.ghost_name }
+        ensures reads { Parses disjunction self.old self.new result }
+    {
+        let left = self.conjunction()?;
+        let Sign::Or = self.sign() else {
+            return Ok(left);
+        };
+        self.step();
+        let right = self.disjunction()?;
+        Ok(self.syntax.push(Node::Or(left, right)))
+    }
+
+    // conjunction: temporal, or temporal `&` conjunction
+    #[cycle(levels)]
+    fn conjunction(&mut self) -> Result<usize, TextFault>
+        ensures same_syntax { self.new.syntax.ghost_name ≡ self.old.syntax.ghost_name }
+        ensures reads { Parses conjunction self.old self.new result }
+    {
+        let left = self.temporal()?;
+        let Sign::And = self.sign() else {
+            return Ok(left);
+        };
+        self.step();
+        let right = self.conjunction()?;
+        Ok(self.syntax.push(Node::And(left, right)))
+    }
+
+    // temporal: unary, or unary `U` temporal, or unary `R` temporal
+    #[cycle(levels)]
+    fn temporal(&mut self) -> Result<usize, TextFault>
+        ensures same_syntax { self.new.syntax.ghost_name ≡ self.old.syntax.ghost_name }
+        ensures reads { Parses temporal self.old self.new result }
+    {
+        let left = self.unary()?;
+        match self.sign() {
+            Sign::Until => {
+                self.step();
+                let right = self.temporal()?;
+                Ok(self.syntax.push(Node::Until(left, right)))
+            }
+            Sign::Release => {
+                self.step();
+                let right = self.temporal()?;
+                Ok(self.syntax.push(Node::Release(left, right)))
+            }
+            _ => Ok(left),
+        }
+    }
+
+    // unary: a one-sided sign and a unary, a letter, a constant, or (implication)
+    #[cycle(levels)]
+    fn unary(&mut self) -> Result<usize, TextFault>
+        ensures same_syntax { self.new.syntax.ghost_name ≡ self.old.syntax.ghost_name }
+        ensures reads { Parses unary self.old self.new result }
+    {
+        match self.sign() {
+            Sign::Not => {
+                self.step();
+                let part = self.unary()?;
+                Ok(self.syntax.push(Node::Not(part)))
+            }
+            Sign::Next => {
+                self.step();
+                let part = self.unary()?;
+                Ok(self.syntax.push(Node::Next(part)))
+            }
+            Sign::Always => {
+                self.step();
+                let part = self.unary()?;
+                Ok(self.syntax.push(Node::Always(part)))
+            }
+            Sign::Eventually => {
+                self.step();
+                let part = self.unary()?;
+                Ok(self.syntax.push(Node::Eventually(part)))
+            }
+            Sign::One => {
+                self.step();
+                Ok(self.syntax.push(Node::One))
+            }
+            Sign::Zero => {
+                self.step();
+                Ok(self.syntax.push(Node::Zero))
+            }
+            Sign::Letter(letter) => {
+                self.step();
+                Ok(self.syntax.push(Node::Letter(letter)))
+            }
+            Sign::Open => {
+                self.step();
+                let inner = self.implication()?;
+                let Sign::Close = self.sign() else {
+                    return Err(self.unwanted());
+                };
+                self.step();
+                Ok(inner)
+            }
+            _ => Err(self.unwanted()),
+        }
     }
 }
 
@@ -214,10 +218,15 @@ impl Syntax {
         if text.len() > LONGEST {
             return Err(TextFault::TooLong);
         }
-        let whole = imp(text, 0, self)?;
-        if whole.next < text.len() {
-            return Err(TextFault::Unexpected(whole.next));
+        let mut reader = Reader {
+            text,
+            at: 0,
+            syntax: self,
+        };
+        let root = reader.implication()?;
+        if reader.at < text.len() {
+            return Err(TextFault::Unexpected(reader.at));
         }
-        Ok(whole.node)
+        Ok(root)
     }
 }

@@ -1,14 +1,14 @@
 -- Why a text is read as it is to be: the pass over the whole of it, after the two tests of its length.
-use Rattle.std.proofs.Common.{◌≡◌, ℕ, ◌≤◌, false, eqb, List, [], length, Err, vec_items, Result, sym, ap, ◌∙◌, subst, arith}
-use Rattle.std.proofs.lemmas.Result.{err_from_is_err_and}
+use Rattle.std.proofs.Common.{rules, ◌≡◌, ℕ, ◌≤◌, false, eqb, List, [], length, Ok, Err, Result, sym, refl, ap, ◌∙◌, subst, arith}
 use Rattle.std.proofs.lemmas.Bool.{eqb-true, eqb-false}
 use Rattle.pltl.specs.Formulas.{Tree}
 use Rattle.texts.specs.declared.faults.TextFault.{TextFault}
 use Rattle.texts.specs.declared.faults.TextFault.TheVariants.{Empty, TooLong}
+use Rattle.texts.specs.declared.nodes.Node.{Node}
 use Rattle.texts.specs.Reading.{Reads, Sized}
 use Rattle.texts.specs.Scan.{nothing, reading}
-use Rattle.texts.specs.Syntax.{answered}
-use Rattle.texts.proofs.Parses.{whole_text, more_follows}
+use Rattle.texts.specs.Syntax.{answered, tree_at}
+use Rattle.texts.proofs.Parses.{handed_on, whole_text, more_follows}
 use Rattle.texts.proofs.Passes.{scan_spelled}
 use Rattle.texts.proofs.Readings.{sized_reading, reads_reading, reads_as_reading}
 use Rattle.texts.proofs.nodes.Syntax.read.Goals as goal
@@ -18,6 +18,10 @@ sized w e h = (omega (arith, eqb-false (length w) 0 e), h)
 
 read_by : (w : List ℕ) (r : Result Tree TextFault) → r ≡ reading w → Reads w r
 read_by w r e = subst (Reads w) (sym e) (reads_reading w)
+
+-- the nodes at the end of the borrow are those that the reader left
+ends : (ns ms : List Node) (i : ℕ) {r : Result Tree TextFault} → ns ≡ ms → Ok (tree_at ms i) ≡ r → Ok (tree_at ns i) ≡ r
+ends ns ms i e h = ap (λ x. Ok (tree_at x i)) e ∙ h
 
 pub returns-then-is_empty : goal.returns-then-is_empty
 returns-then-is_empty c =
@@ -29,22 +33,21 @@ returns-then-text-gt-LONGEST c =
     let h = c.if-text-gt-LONGEST.true in
     record { value = sym (reads_as_reading c.args.text.now (Err TooLong) h); reads = h }
 
-pub returns-in_err-whole : goal.returns-in_err-whole
-returns-in_err-whole c =
+pub returns-in_err-root : goal.returns-in_err-root
+returns-in_err-root c =
     let z = sized c.args.text.now (sym c.if-is_empty.ensures) c.if-text-gt-LONGEST.false in
-    let p = err_from_is_err_and c.from_residual.result c.from_residual.ensures.1 in
-    let e = ap (answered (vec_items c.imp.new.out.nodes)) p.1 ∙ ap Err p.2
-    ∙ sym (sized_reading c.args.text.now z ∙ c.in_err-whole.ensures nothing []) in
+    let e = ap (answered _) (handed_on _ c.from_residual.ensures.1) ∙ sym (sized_reading c.args.text.now z ∙ c.in_err-root.ensures.reads nothing []) in
     record { value = e; reads = read_by c.args.text.now _ e }
 
 pub returns : goal.returns
 returns c =
     let z = sized c.args.text.now (sym c.if-is_empty.ensures) c.if-text-gt-LONGEST.false in
-    let s = whole_text c.in_ok-whole.ensures c.if-whole-text.false in
-    record { value = sym (sized_reading c.args.text.now z ∙ scan_spelled s); reads = (z, s) }
+    let s = whole_text c.in_ok-root.ensures.reads refl c.if-reader-text.false in
+    let e = ends _ _ _ (search rules) (sym (sized_reading c.args.text.now z ∙ scan_spelled s)) in
+    record { value = e; reads = read_by c.args.text.now _ e }
 
-pub returns-then-whole-text : goal.returns-then-whole-text
-returns-then-whole-text c =
+pub returns-then-reader-text : goal.returns-then-reader-text
+returns-then-reader-text c =
     let z = sized c.args.text.now (sym c.if-is_empty.ensures) c.if-text-gt-LONGEST.false in
-    let e = sym (sized_reading c.args.text.now z ∙ more_follows c.in_ok-whole.ensures c.if-whole-text.true) in
+    let e = sym (sized_reading c.args.text.now z ∙ more_follows c.in_ok-root.ensures.reads c.if-reader-text.true) in
     record { value = e; reads = read_by c.args.text.now _ e }
