@@ -149,55 +149,25 @@ module _ {i d c t : Pending} {q : List ℕ} (fs : List Frame) (b : ℕ) where
   before_keeps Next e h = rw e (more next (codes "X") (λ t w s. next_text s) h)
   before_keeps Always e h = rw e (more always (codes "G") (λ t w s. always_text s) h)
   before_keeps Eventually e h = rw e (more eventually (codes "F") (λ t w s. eventually_text s) h)
-  before_keeps Until e h = tt
-  before_keeps Release e h = tt
-  before_keeps And e h = tt
-  before_keeps Or e h = tt
-  before_keeps Minus e h = tt
-  before_keeps Greater e h = tt
   before_keeps Open e h = only (begin implication (q, h, ap (λ x. q ++ x ∷ []) e))
-  before_keeps Close e h = tt
   before_keeps One e h = rw e (fill h one_text)
   before_keeps Zero e h = rw e (fill h zero_text)
   before_keeps (Letter k) e h = rw e.0 (fill h (letter_text k e.1))
-  before_keeps Other e h = tt
+  before_keeps _ e h = tt
 
   after_keeps : {v : Tree} (g : Sign) → Stands g b → Valid (after i d c t v fs) q → Valid (step_after i d c t v fs g) (q ++ b ∷ [])
-  after_keeps Not e h = tt
-  after_keeps Next e h = tt
-  after_keeps Always e h = tt
-  after_keeps Eventually e h = tt
   after_keeps {v = v} Until e h = rw e (begin unary (left (until v) (codes "U") (λ x e w. until_text) h))
   after_keeps {v = v} Release e h = rw e (begin unary (left (release v) (codes "R") (λ x e w. release_text) h))
   after_keeps {v = v} And e h = rw e (begin unary (begin temporal (left (and (t v)) (codes "&") (λ x e w. and_text) (at_temporal h))))
   after_keeps {v = v} Or e h = rw e (begin unary (begin temporal (begin conjunction (left (or (c (t v))) (codes "|") (λ x e w. or_text) (at_conjunction h)))))
   after_keeps Minus e h = (q, h, ap (λ x. q ++ x ∷ []) e)
-  after_keeps Greater e h = tt
-  after_keeps Open e h = tt
   after_keeps Close e h = rw e (close_keeps fs h)
-  after_keeps One e h = tt
-  after_keeps Zero e h = tt
-  after_keeps (Letter k) e h = tt
-  after_keeps Other e h = tt
+  after_keeps _ e h = tt
 
   arrow_keeps : {v : Tree} (g : Sign) → Stands g b → Valid (arrow i d c t v fs) q → Valid (step_arrow i d c t v fs g) (q ++ b ∷ [])
-  arrow_keeps Not e h = tt
-  arrow_keeps Next e h = tt
-  arrow_keeps Always e h = tt
-  arrow_keeps Eventually e h = tt
-  arrow_keeps Until e h = tt
-  arrow_keeps Release e h = tt
-  arrow_keeps And e h = tt
-  arrow_keeps Or e h = tt
-  arrow_keeps Minus e h = tt
   arrow_keeps {v = v} Greater e h = rw (e, h.2, append_assoc)
       (only (left (implies (d (c (t v)))) (codes "->") (λ x e w. implies_text) (at_disjunction h.1)))
-  arrow_keeps Open e h = tt
-  arrow_keeps Close e h = tt
-  arrow_keeps One e h = tt
-  arrow_keeps Zero e h = tt
-  arrow_keeps (Letter k) e h = tt
-  arrow_keeps Other e h = tt
+  arrow_keeps _ e h = tt
 
 pub step_keeps : (s : State) (b : ℕ) (q : List ℕ) → Valid s q → Valid (step s b) (q ++ b ∷ [])
 unfolding step

@@ -1,6 +1,6 @@
 -- What the answers of the five levels follow from: a part of a text that is read is one step of the pass, parts
 -- and signs join to larger parts, and where a part fails the pass comes to the same fault. Assumes nothing.
-use Rattle.std.proofs.Common.{◌≡◌, ℕ, ◌+◌, ◌-◌, ◌<◌, ◌≤◌, true, cond, ◌&&◌, ltb, List, [], ◌∷◌, ◌++◌, length, get_or, take, drop, Ok, Err, Result, sym, refl, ap, ◌∙◌, subst, ⊎_elim, append_assoc, append-nil, arith, length-append, length-drop, take-add}
+use Rattle.std.proofs.Common.{◌≡◌, ℕ, ◌+◌, ◌-◌, ◌<◌, ◌≤◌, true, cond, ◌&&◌, ltb, List, [], ◌∷◌, ◌++◌, length, vec_len, get_or, take, drop, Ok, Err, Result, sym, refl, ap, ◌∙◌, subst, ⊎_elim, append_assoc, append-nil, arith, length-append, length-drop, take-add}
 use Rattle.std.specs.Prelude.{IsErrAnd}
 use Rattle.std.proofs.lemmas.List.{drop_more, drop-drop, take_all, at_drop_more, at_drop_all, take-append-drop, length-take-le, length_push}
 use Rattle.std.proofs.lemmas.Bool.{cases_lt, and_from, lt-ltb, le-ltb, cond-true, cond-false}
@@ -13,7 +13,7 @@ use Rattle.texts.specs.declared.levels.Reader.{Reader}
 use Rattle.texts.specs.declared.nodes.Node.{Node}
 use Rattle.texts.specs.Grammar.{Level, implication, disjunction, conjunction, temporal, unary, Spells, bracket_text}
 use Rattle.texts.specs.Parsing.{rank, looseness, rest, nodes_of, passed, Steps, ReadAs, outcome, Fails}
-use Rattle.texts.specs.Scan.{Pending, nothing, Frame, State, before, after, arrow, stuck, step, step_before, step_after, step_arrow, ended, unless_stuck, scan, start}
+use Rattle.texts.specs.Scan.{Pending, nothing, Frame, State, before, after, arrow, stuck, close, step, step_before, step_after, step_arrow, ended, unless_stuck, scan, start}
 use Rattle.texts.specs.Signs.{sign_of, sign_from}
 use Rattle.texts.specs.Syntax.{trees, tree_over, tree_at}
 use Rattle.texts.proofs.Frames.{Stands, sign_stands}
@@ -24,22 +24,8 @@ use Rattle.texts.proofs.Trees.{tree_stays, tree_push}
 
 -- a sign, and neither the end of the text nor a byte that is none
 abbrev pub Some : Sign → Type 0
-Some Not = Unit
-Some Next = Unit
-Some Always = Unit
-Some Eventually = Unit
-Some Until = Unit
-Some Release = Unit
-Some And = Unit
-Some Or = Unit
-Some Minus = Unit
-Some Greater = Unit
-Some Open = Unit
-Some Close = Unit
-Some One = Unit
-Some Zero = Unit
-Some (Letter k) = Unit
 Some Other = ⊥
+Some _ = Unit
 
 -- r' is r over the sign g
 pub record Crosses (g : Sign) (r r' : Reader) : Type 0 where
@@ -57,44 +43,27 @@ crosses {r = r} s e m =
 pub stands : {g : Sign} {r r' : Reader} → Crosses g r r' → Stands g (get_or r.text.now r.at 0)
 stands {r = r} h = subst (λ g. Stands g (get_or r.text.now r.at 0)) h.sign (sign_stands (get_or r.text.now r.at 0))
 
--- what holds of the signs that go on at some level, and of every other
-module _ (P : Sign → Type 0) where
-  pub sign_cases : P Until → P Release → P And → P Or → P Minus → ((g : Sign) → looseness g ≡ 5 → P g) → (g : Sign) → P g
-  sign_cases u r a o m h Not = h Not refl
-  sign_cases u r a o m h Next = h Next refl
-  sign_cases u r a o m h Always = h Always refl
-  sign_cases u r a o m h Eventually = h Eventually refl
-  sign_cases u r a o m h Until = u
-  sign_cases u r a o m h Release = r
-  sign_cases u r a o m h And = a
-  sign_cases u r a o m h Or = o
-  sign_cases u r a o m h Minus = m
-  sign_cases u r a o m h Greater = h Greater refl
-  sign_cases u r a o m h Open = h Open refl
-  sign_cases u r a o m h Close = h Close refl
-  sign_cases u r a o m h One = h One refl
-  sign_cases u r a o m h Zero = h Zero refl
-  sign_cases u r a o m h (Letter k) = h (Letter k) refl
-  sign_cases u r a o m h Other = h Other refl
-
+-- a sign that does not go on at a level, if no looser one did
 pub every_loose : (g : Sign) → 0 < looseness g
-every_loose = sign_cases (λ g. 0 < looseness g) (omega arith) (omega arith) (omega arith) (omega arith) (omega arith) (λ g e. omega arith)
+every_loose Until = omega arith
+every_loose _ = omega arith
 
 pub past_until : (g : Sign) → (g ≡ Until → ⊥) → (g ≡ Release → ⊥) → 0 < looseness g → 1 < looseness g
-past_until = sign_cases (λ g. (g ≡ Until → ⊥) → (g ≡ Release → ⊥) → 0 < looseness g → 1 < looseness g)
-    (λ n m h. absurd (n refl)) (λ n m h. absurd (m refl)) (λ n m h. omega arith) (λ n m h. omega arith) (λ n m h. omega arith) (λ g e n m h. omega arith)
+past_until Until n m h = absurd (n refl)
+past_until Release n m h = absurd (m refl)
+past_until _ n m h = omega arith
 
 pub past_and : (g : Sign) → (g ≡ And → ⊥) → 1 < looseness g → 2 < looseness g
-past_and = sign_cases (λ g. (g ≡ And → ⊥) → 1 < looseness g → 2 < looseness g)
-    (λ n h. omega arith) (λ n h. omega arith) (λ n h. absurd (n refl)) (λ n h. omega arith) (λ n h. omega arith) (λ g e n h. omega arith)
+past_and And n h = absurd (n refl)
+past_and _ n h = omega arith
 
 pub past_or : (g : Sign) → (g ≡ Or → ⊥) → 2 < looseness g → 3 < looseness g
-past_or = sign_cases (λ g. (g ≡ Or → ⊥) → 2 < looseness g → 3 < looseness g)
-    (λ n h. omega arith) (λ n h. omega arith) (λ n h. omega arith) (λ n h. absurd (n refl)) (λ n h. omega arith) (λ g e n h. omega arith)
+past_or Or n h = absurd (n refl)
+past_or _ n h = omega arith
 
 pub past_minus : (g : Sign) → (g ≡ Minus → ⊥) → 3 < looseness g → 4 < looseness g
-past_minus = sign_cases (λ g. (g ≡ Minus → ⊥) → 3 < looseness g → 4 < looseness g)
-    (λ n h. omega arith) (λ n h. omega arith) (λ n h. omega arith) (λ n h. omega arith) (λ n h. absurd (n refl)) (λ g e n h. omega arith)
+past_minus Minus n h = absurd (n refl)
+past_minus _ n h = omega arith
 
 -- Parts of a text.
 
@@ -133,8 +102,8 @@ pub record Over (r r' : Reader) (w : List ℕ) : Type 0 where
   pub are : passed r r' ≡ w
 
 -- a sign of one byte
-pub byte : {g : Sign} {r r' : Reader} (b : ℕ) → Crosses g r r' → get_or r.text.now r.at 0 ≡ b → Over r r' (b ∷ [])
-byte {r = r} b h e = record {
+pub byte : {g : Sign} {r r' : Reader} {b : ℕ} → Crosses g r r' → get_or r.text.now r.at 0 ≡ b → Over r r' (b ∷ [])
+byte {r = r} h e = record {
   same_text = h.step.same_text;
   ahead = omega (arith, h.step.at);
   are = ap (part r.text.now r.at) h.step.at ∙ part_one r.text.now r.at h.lies ∙ ap (λ x. x ∷ []) e;
@@ -175,7 +144,7 @@ alone {l = l} {l' = l'} f r e s = record {
 
 -- r' is r with one node more, the n-th
 abbrev pub Adds : Node → Reader → Reader → ℕ → Type 0
-Adds node r r' n = (r'.text.now ≡ r.text.now) × (r'.at ≡ r.at) × (n ≡ length (nodes_of r)) × (nodes_of r' ≡ nodes_of r ++ node ∷ [])
+Adds node r r' n = (r'.text.now ≡ r.text.now) × (r'.at ≡ r.at) × (n ≡ vec_len r.syntax.now.nodes) × (nodes_of r' ≡ nodes_of r ++ node ∷ [])
 
 -- the bytes w spell the tree of the node that is added
 pub pushed : {l : Level} {r r₁ r₂ : Reader} {n : ℕ} {w : List ℕ} (node : Node) →
@@ -183,16 +152,17 @@ pub pushed : {l : Level} {r r₁ r₂ : Reader} {n : ℕ} {w : List ℕ} (node :
     Spells l (tree_over (trees (nodes_of r₁)) node) w → rank l < looseness (sign_from (rest r₁)) → Adds node r₁ r₂ n → ReadAs l r r₂ n
 pushed {l = l} {r = r} {r₁ = r₁} {r₂ = r₂} {n = n} {w = w} node b g few s k a =
     let e : nodes_of r₂ ≡ nodes_of r₁ ++ node ∷ [] = a.3 in
+    let nth : n ≡ length (nodes_of r₁) = a.2 ∙ r₁.syntax.now.nodes.ok.0 in
     let long = length_push (nodes_of r₁) node in
     let long₂ : length (nodes_of r₂) ≡ length (nodes_of r₁) + 1 = ap length e ∙ long in
     let t : tree_over (trees (nodes_of r₁)) node ≡ tree_at (nodes_of r₂) n =
-    sym (ap (tree_at (nodes_of r₂)) a.2 ∙ ap (λ m. tree_at m (length (nodes_of r₁))) e ∙ tree_push (nodes_of r₁) node) in
+    sym (ap (tree_at (nodes_of r₂)) nth ∙ ap (λ m. tree_at m (length (nodes_of r₁))) e ∙ tree_push (nodes_of r₁) node) in
     let are : w ≡ passed r r₂ = sym b.are ∙ ap (part r.text.now r.at) (sym a.1) in
     let rests : rest r₁ ≡ rest r₂ = cc (a.0, a.1) in
     record {
       same_text = a.0 ∙ b.same_text;
       ahead = omega (arith, b.ahead, a.1);
-      made = omega (arith, a.2);
+      made = omega arith;
       grown = (g.0 ++ node ∷ [], e ∙ ap (λ m. m ++ node ∷ []) g.1 ∙ append_assoc (nodes_of r) g.0 (node ∷ []));
       few = omega (arith, a.1);
       spells = subst (λ x. Spells l x (passed r r₂)) t (subst (Spells l (tree_over (trees (nodes_of r₁)) node)) are s);
@@ -238,7 +208,7 @@ atom {r = r} {r₁ = r₁} node s b same a =
 -- a part in brackets
 pub in_brackets : {r r₁ r₂ r₃ : Reader} {p : ℕ} → Crosses Open r r₁ → ReadAs implication r₁ r₂ p → Crosses Close r₂ r₃ → ReadAs unary r r₃ p
 in_brackets {r = r} {r₁ = r₁} {r₂ = r₂} {r₃ = r₃} {p = p} o f k =
-    let b = byte 40 o (stands o) followed-by read_bytes f followed-by byte 41 k (stands k) in
+    let b = byte o (stands o) followed-by read_bytes f followed-by byte k (stands k) in
     let first : length (nodes_of r₁) ≡ length (nodes_of r) = ap length o.step.same_nodes in
     let last : length (nodes_of r₃) ≡ length (nodes_of r₂) = ap length k.step.same_nodes in
     record {
@@ -310,75 +280,26 @@ begins_none i d c t u fs Not n x a e o y z l = absurd (n refl)
 begins_none i d c t u fs Next n x a e o y z l = absurd (x refl)
 begins_none i d c t u fs Always n x a e o y z l = absurd (a refl)
 begins_none i d c t u fs Eventually n x a e o y z l = absurd (e refl)
-begins_none i d c t u fs Until n x a e o y z l = refl
-begins_none i d c t u fs Release n x a e o y z l = refl
-begins_none i d c t u fs And n x a e o y z l = refl
-begins_none i d c t u fs Or n x a e o y z l = refl
-begins_none i d c t u fs Minus n x a e o y z l = refl
-begins_none i d c t u fs Greater n x a e o y z l = refl
 begins_none i d c t u fs Open n x a e o y z l = absurd (o refl)
-begins_none i d c t u fs Close n x a e o y z l = refl
 begins_none i d c t u fs One n x a e o y z l = absurd (y refl)
 begins_none i d c t u fs Zero n x a e o y z l = absurd (z refl)
 begins_none i d c t u fs (Letter k) n x a e o y z l = absurd (l k refl)
-begins_none i d c t u fs Other n x a e o y z l = refl
+begins_none i d c t u fs _ n x a e o y z l = refl
 
 -- after the minus, only the rest of the arrow
 pub arrow_only : (i d c t : Pending) (v : Tree) (fs : List Frame) (g : Sign) → (g ≡ Greater → ⊥) → by_sign (arrow i d c t v fs) g ≡ stuck
-arrow_only i d c t v fs Not n = refl
-arrow_only i d c t v fs Next n = refl
-arrow_only i d c t v fs Always n = refl
-arrow_only i d c t v fs Eventually n = refl
-arrow_only i d c t v fs Until n = refl
-arrow_only i d c t v fs Release n = refl
-arrow_only i d c t v fs And n = refl
-arrow_only i d c t v fs Or n = refl
-arrow_only i d c t v fs Minus n = refl
 arrow_only i d c t v fs Greater n = absurd (n refl)
-arrow_only i d c t v fs Open n = refl
-arrow_only i d c t v fs Close n = refl
-arrow_only i d c t v fs One n = refl
-arrow_only i d c t v fs Zero n = refl
-arrow_only i d c t v fs (Letter k) n = refl
-arrow_only i d c t v fs Other n = refl
+arrow_only i d c t v fs _ n = refl
 
 -- where an implication stops, only a closing bracket
-pub close_only : (i d c t : Pending) (v : Tree) (fs : List Frame) (g : Sign) → 4 < looseness g → (g ≡ Close → ⊥) → by_sign (after i d c t v fs) g ≡ stuck
-close_only i d c t v fs Not h n = refl
-close_only i d c t v fs Next h n = refl
-close_only i d c t v fs Always h n = refl
-close_only i d c t v fs Eventually h n = refl
+pub close_only : (i d c t : Pending) (v : Tree) (fs : List Frame) (g : Sign) → 4 < looseness g → (g ≡ Close → close i d c t v fs ≡ stuck) → by_sign (after i d c t v fs) g ≡ stuck
 close_only i d c t v fs Until h n = absurd (omega arith)
 close_only i d c t v fs Release h n = absurd (omega arith)
 close_only i d c t v fs And h n = absurd (omega arith)
 close_only i d c t v fs Or h n = absurd (omega arith)
 close_only i d c t v fs Minus h n = absurd (omega arith)
-close_only i d c t v fs Greater h n = refl
-close_only i d c t v fs Open h n = refl
-close_only i d c t v fs Close h n = absurd (n refl)
-close_only i d c t v fs One h n = refl
-close_only i d c t v fs Zero h n = refl
-close_only i d c t v fs (Letter k) h n = refl
-close_only i d c t v fs Other h n = refl
-
--- and outside all brackets, not that either
-pub close_none : (i d c t : Pending) (v : Tree) (g : Sign) → 4 < looseness g → by_sign (after i d c t v []) g ≡ stuck
-close_none i d c t v Not h = refl
-close_none i d c t v Next h = refl
-close_none i d c t v Always h = refl
-close_none i d c t v Eventually h = refl
-close_none i d c t v Until h = absurd (omega arith)
-close_none i d c t v Release h = absurd (omega arith)
-close_none i d c t v And h = absurd (omega arith)
-close_none i d c t v Or h = absurd (omega arith)
-close_none i d c t v Minus h = absurd (omega arith)
-close_none i d c t v Greater h = refl
-close_none i d c t v Open h = refl
-close_none i d c t v Close h = refl
-close_none i d c t v One h = refl
-close_none i d c t v Zero h = refl
-close_none i d c t v (Letter k) h = refl
-close_none i d c t v Other h = refl
+close_only i d c t v fs Close h n = n refl
+close_only i d c t v fs _ h n = refl
 
 -- the fault that `?` hands on
 pub handed_on : {f : TextFault} (res : Result ℕ TextFault) → IsErrAnd res (λ y. y ≡ f) → res ≡ Err f
@@ -433,7 +354,7 @@ module _ {r r₁ r₂ : Reader} {p : ℕ} {f : TextFault} where
       let gs : List Frame = record { imp = i; dis = d; con = c; tem = t; una = u } ∷ fs in
       let l = through a.spells nothing gs in
       stepped _ h ∙ over a l.6
-      ∙ unwanted_at r₂ (after l.0 l.1 l.2 l.3 l.4 gs) e (close_only l.0 l.1 l.2 l.3 l.4 gs _ (subst (λ g. 4 < looseness g) (sym e) a.stops) n) refl q
+      ∙ unwanted_at r₂ (after l.0 l.1 l.2 l.3 l.4 gs) e (close_only l.0 l.1 l.2 l.3 l.4 gs _ (subst (λ g. 4 < looseness g) (sym e) a.stops) (λ x. absurd (n x))) refl q
 
 -- nothing that begins a part
 pub none_begins : (r : Reader) {f : TextFault} {g : Sign} → g ≡ sign_from (rest r) →
@@ -451,4 +372,4 @@ whole_text {l = l} {r = r} {r' = r'} {p = p} a z h =
 pub more_follows : {r r' : Reader} {p : ℕ} → ReadAs implication r r' p → r'.at < length r.text.now → outcome r start ≡ Err (Unexpected r'.at)
 more_follows {r' = r'} a h =
     let l = through a.spells nothing [] in
-    over a l.6 ∙ stuck_at r' (after l.0 l.1 l.2 l.3 l.4 []) (omega (arith, ap length a.same_text)) (close_none l.0 l.1 l.2 l.3 l.4 _ a.stops)
+    over a l.6 ∙ stuck_at r' (after l.0 l.1 l.2 l.3 l.4 []) (omega (arith, ap length a.same_text)) (close_only l.0 l.1 l.2 l.3 l.4 [] _ a.stops (λ e. refl))

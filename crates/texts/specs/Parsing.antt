@@ -2,7 +2,7 @@
 use Rattle.std.specs.Prelude.{◌≡◌, ℕ, ◌+◌, ◌-◌, ◌<◌, ◌≤◌, List, ◌++◌, length, take, drop, Ok, Err, Result}
 use Rattle.pltl.specs.Formulas.{Tree}
 use Rattle.texts.specs.declared.Sign.{Sign}
-use Rattle.texts.specs.declared.Sign.TheVariants.{Not, Next, Always, Eventually, Until, Release, And, Or, Minus, Greater, Open, Close, One, Zero, Letter, Other}
+use Rattle.texts.specs.declared.Sign.TheVariants.{Until, Release, And, Or, Minus}
 use Rattle.texts.specs.declared.faults.TextFault.{TextFault}
 use Rattle.texts.specs.declared.levels.Reader.{Reader}
 use Rattle.texts.specs.declared.nodes.Node.{Node}
@@ -20,22 +20,12 @@ rank disjunction = 3
 rank implication = 4
 
 abbrev pub looseness : Sign → ℕ
-looseness Not = 5
-looseness Next = 5
-looseness Always = 5
-looseness Eventually = 5
 looseness Until = 1
 looseness Release = 1
 looseness And = 2
 looseness Or = 3
 looseness Minus = 4
-looseness Greater = 5
-looseness Open = 5
-looseness Close = 5
-looseness One = 5
-looseness Zero = 5
-looseness (Letter k) = 5
-looseness Other = 5
+looseness _ = 5
 
 -- the bytes that a reader has before it, and its nodes
 abbrev pub rest : Reader → List ℕ

@@ -63,10 +63,6 @@ impl Syntax {
     pub(crate) fn node(&self, at: usize) -> Option<Node>
         ensures { MatchOption result (tree_at self.now.nodes.items at ≡ one) (λ n. (tree_at self.now.nodes.items at ≡ tree_over (trees self.now.nodes.items) n) × (below at n ≡ true)) }
     {
-        if at < self.nodes.len() {
-            Some(self.nodes[at])
-        } else {
-            None
-        }
+        self.nodes.get(at).copied()
     }
 }

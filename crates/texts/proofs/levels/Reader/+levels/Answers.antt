@@ -22,8 +22,8 @@ implication-returns-clause-reads t c =
     let h = crosses tt c.in-Minus.ensures c.step.ensures.steps in
     let g = crosses tt c.in-Greater.ensures c.step-2.ensures.steps in
     joined (node.Implies c.in_ok-left.left c.in_ok-right.right) implies (λ a b v w. implies_text) (λ ts. refl)
-    c.in_ok-left.ensures.reads (byte 45 h (stands h) followed-by byte 62 g (stands g)) (g.step.same_nodes ∙ h.step.same_nodes) c.in_ok-right.ensures.reads
-    (refl, refl, c.push.ensures.value ∙ c.implication.new.self.syntax.now.nodes.ok.0, c.push.ensures.items)
+    c.in_ok-left.ensures.reads (byte h (stands h) followed-by byte g (stands g)) (g.step.same_nodes ∙ h.step.same_nodes) c.in_ok-right.ensures.reads
+    (refl, refl, c.push.ensures.value, c.push.ensures.items)
 
 pub disjunction-returns-in_default-clause-reads : goal.disjunction-returns-in_default-clause-reads
 disjunction-returns-in_default-clause-reads t c = alone (λ t w. conjunction_alone) c.in_ok-left.ensures.reads c.sign.ensures (past_or _ c.in_default.not-Or)
@@ -36,8 +36,8 @@ pub disjunction-returns-clause-reads : goal.disjunction-returns-clause-reads
 disjunction-returns-clause-reads t c =
     let h = crosses tt c.in-Or.ensures c.step.ensures.steps in
     joined (node.Or c.in_ok-left.left c.in_ok-right.right) or (λ a b v w. or_text) (λ ts. refl)
-    c.in_ok-left.ensures.reads (byte 124 h (stands h)) h.step.same_nodes c.in_ok-right.ensures.reads
-    (refl, refl, c.push.ensures.value ∙ c.disjunction.new.self.syntax.now.nodes.ok.0, c.push.ensures.items)
+    c.in_ok-left.ensures.reads (byte h (stands h)) h.step.same_nodes c.in_ok-right.ensures.reads
+    (refl, refl, c.push.ensures.value, c.push.ensures.items)
 
 pub conjunction-returns-in_default-clause-reads : goal.conjunction-returns-in_default-clause-reads
 conjunction-returns-in_default-clause-reads t c = alone (λ t w. temporal_alone) c.in_ok-left.ensures.reads c.sign.ensures (past_and _ c.in_default.not-And)
@@ -50,8 +50,8 @@ pub conjunction-returns-clause-reads : goal.conjunction-returns-clause-reads
 conjunction-returns-clause-reads t c =
     let h = crosses tt c.in-And.ensures c.step.ensures.steps in
     joined (node.And c.in_ok-left.left c.in_ok-right.right) and (λ a b v w. and_text) (λ ts. refl)
-    c.in_ok-left.ensures.reads (byte 38 h (stands h)) h.step.same_nodes c.in_ok-right.ensures.reads
-    (refl, refl, c.push.ensures.value ∙ c.conjunction.new.self.syntax.now.nodes.ok.0, c.push.ensures.items)
+    c.in_ok-left.ensures.reads (byte h (stands h)) h.step.same_nodes c.in_ok-right.ensures.reads
+    (refl, refl, c.push.ensures.value, c.push.ensures.items)
 
 pub temporal-returns-in_default-clause-reads : goal.temporal-returns-in_default-clause-reads
 temporal-returns-in_default-clause-reads t c = alone (λ t w. unary_alone) c.in_ok-left.ensures.reads c.sign.ensures (past_until _ c.in_default.not-Until c.in_default.not-Release)
@@ -64,8 +64,8 @@ pub temporal-returns-in_ok-right-in-Until-clause-reads : goal.temporal-returns-i
 temporal-returns-in_ok-right-in-Until-clause-reads t c =
     let h = crosses tt c.in-Until.ensures c.step.ensures.steps in
     joined (node.Until c.in_ok-left.left c.in_ok-right-in-Until.right) until (λ a b v w. until_text) (λ ts. refl)
-    c.in_ok-left.ensures.reads (byte 85 h (stands h)) h.step.same_nodes c.in_ok-right-in-Until.ensures.reads
-    (refl, refl, c.push.ensures.value ∙ c.temporal.new.self.syntax.now.nodes.ok.0, c.push.ensures.items)
+    c.in_ok-left.ensures.reads (byte h (stands h)) h.step.same_nodes c.in_ok-right-in-Until.ensures.reads
+    (refl, refl, c.push.ensures.value, c.push.ensures.items)
 
 pub temporal-returns-in_err-right-in-Release-clause-reads : goal.temporal-returns-in_err-right-in-Release-clause-reads
 temporal-returns-in_err-right-in-Release-clause-reads t c = rw (handed_on _ c.from_residual-in_err-right-in-Release.ensures.1)
@@ -75,8 +75,8 @@ pub temporal-returns-in_ok-right-in-Release-clause-reads : goal.temporal-returns
 temporal-returns-in_ok-right-in-Release-clause-reads t c =
     let h = crosses tt c.in-Release.ensures c.step-in-Release.ensures.steps in
     joined (node.Release c.in_ok-left.left c.in_ok-right-in-Release.right) release (λ a b v w. release_text) (λ ts. refl)
-    c.in_ok-left.ensures.reads (byte 82 h (stands h)) h.step.same_nodes c.in_ok-right-in-Release.ensures.reads
-    (refl, refl, c.push-in-Release.ensures.value ∙ c.temporal-in-Release.new.self.syntax.now.nodes.ok.0, c.push-in-Release.ensures.items)
+    c.in_ok-left.ensures.reads (byte h (stands h)) h.step.same_nodes c.in_ok-right-in-Release.ensures.reads
+    (refl, refl, c.push-in-Release.ensures.value, c.push-in-Release.ensures.items)
 
 pub unary-returns-in_err-part-in-Not-clause-reads : goal.unary-returns-in_err-part-in-Not-clause-reads
 unary-returns-in_err-part-in-Not-clause-reads t c = rw (handed_on _ c.from_residual.ensures.1)
@@ -85,8 +85,8 @@ unary-returns-in_err-part-in-Not-clause-reads t c = rw (handed_on _ c.from_resid
 pub unary-returns-in_ok-part-in-Not-clause-reads : goal.unary-returns-in_ok-part-in-Not-clause-reads
 unary-returns-in_ok-part-in-Not-clause-reads t c =
     let h = crosses tt c.in-Not.ensures c.step.ensures.steps in
-    signed (node.Not c.in_ok-part-in-Not.part) not (λ a w. not_text) (λ ts. refl) (byte 33 h (stands h)) h.step.same_nodes c.in_ok-part-in-Not.ensures.reads
-    (refl, refl, c.push.ensures.value ∙ c.unary.new.self.syntax.now.nodes.ok.0, c.push.ensures.items)
+    signed (node.Not c.in_ok-part-in-Not.part) not (λ a w. not_text) (λ ts. refl) (byte h (stands h)) h.step.same_nodes c.in_ok-part-in-Not.ensures.reads
+    (refl, refl, c.push.ensures.value, c.push.ensures.items)
 
 pub unary-returns-in_err-part-in-Next-clause-reads : goal.unary-returns-in_err-part-in-Next-clause-reads
 unary-returns-in_err-part-in-Next-clause-reads t c = rw (handed_on _ c.from_residual-in_err-part-in-Next.ensures.1)
@@ -95,8 +95,8 @@ unary-returns-in_err-part-in-Next-clause-reads t c = rw (handed_on _ c.from_resi
 pub unary-returns-in_ok-part-in-Next-clause-reads : goal.unary-returns-in_ok-part-in-Next-clause-reads
 unary-returns-in_ok-part-in-Next-clause-reads t c =
     let h = crosses tt c.in-Next.ensures c.step-in-Next.ensures.steps in
-    signed (node.Next c.in_ok-part-in-Next.part) next (λ a w. next_text) (λ ts. refl) (byte 88 h (stands h)) h.step.same_nodes c.in_ok-part-in-Next.ensures.reads
-    (refl, refl, c.push-in-Next.ensures.value ∙ c.unary-in-Next.new.self.syntax.now.nodes.ok.0, c.push-in-Next.ensures.items)
+    signed (node.Next c.in_ok-part-in-Next.part) next (λ a w. next_text) (λ ts. refl) (byte h (stands h)) h.step.same_nodes c.in_ok-part-in-Next.ensures.reads
+    (refl, refl, c.push-in-Next.ensures.value, c.push-in-Next.ensures.items)
 
 pub unary-returns-in_err-part-in-Always-clause-reads : goal.unary-returns-in_err-part-in-Always-clause-reads
 unary-returns-in_err-part-in-Always-clause-reads t c = rw (handed_on _ c.from_residual-in_err-part-in-Always.ensures.1)
@@ -105,8 +105,8 @@ unary-returns-in_err-part-in-Always-clause-reads t c = rw (handed_on _ c.from_re
 pub unary-returns-in_ok-part-in-Always-clause-reads : goal.unary-returns-in_ok-part-in-Always-clause-reads
 unary-returns-in_ok-part-in-Always-clause-reads t c =
     let h = crosses tt c.in-Always.ensures c.step-in-Always.ensures.steps in
-    signed (node.Always c.in_ok-part-in-Always.part) always (λ a w. always_text) (λ ts. refl) (byte 71 h (stands h)) h.step.same_nodes c.in_ok-part-in-Always.ensures.reads
-    (refl, refl, c.push-in-Always.ensures.value ∙ c.unary-in-Always.new.self.syntax.now.nodes.ok.0, c.push-in-Always.ensures.items)
+    signed (node.Always c.in_ok-part-in-Always.part) always (λ a w. always_text) (λ ts. refl) (byte h (stands h)) h.step.same_nodes c.in_ok-part-in-Always.ensures.reads
+    (refl, refl, c.push-in-Always.ensures.value, c.push-in-Always.ensures.items)
 
 pub unary-returns-in_err-part-in-Eventually-clause-reads : goal.unary-returns-in_err-part-in-Eventually-clause-reads
 unary-returns-in_err-part-in-Eventually-clause-reads t c = rw (handed_on _ c.from_residual-in_err-part-in-Eventually.ensures.1)
@@ -115,26 +115,26 @@ unary-returns-in_err-part-in-Eventually-clause-reads t c = rw (handed_on _ c.fro
 pub unary-returns-in_ok-part-in-Eventually-clause-reads : goal.unary-returns-in_ok-part-in-Eventually-clause-reads
 unary-returns-in_ok-part-in-Eventually-clause-reads t c =
     let h = crosses tt c.in-Eventually.ensures c.step-in-Eventually.ensures.steps in
-    signed (node.Eventually c.in_ok-part-in-Eventually.part) eventually (λ a w. eventually_text) (λ ts. refl) (byte 70 h (stands h)) h.step.same_nodes c.in_ok-part-in-Eventually.ensures.reads
-    (refl, refl, c.push-in-Eventually.ensures.value ∙ c.unary-in-Eventually.new.self.syntax.now.nodes.ok.0, c.push-in-Eventually.ensures.items)
+    signed (node.Eventually c.in_ok-part-in-Eventually.part) eventually (λ a w. eventually_text) (λ ts. refl) (byte h (stands h)) h.step.same_nodes c.in_ok-part-in-Eventually.ensures.reads
+    (refl, refl, c.push-in-Eventually.ensures.value, c.push-in-Eventually.ensures.items)
 
 pub unary-returns-in-One-clause-reads : goal.unary-returns-in-One-clause-reads
 unary-returns-in-One-clause-reads t c =
     let h = crosses tt c.in-One.ensures c.step-in-One.ensures.steps in
-    atom node.One (λ ts. one_text) (byte 49 h (stands h)) h.step.same_nodes
-    (refl, refl, c.push-in-One.ensures.value ∙ c.step-in-One.new.self.syntax.now.nodes.ok.0, c.push-in-One.ensures.items)
+    atom node.One (λ ts. one_text) (byte h (stands h)) h.step.same_nodes
+    (refl, refl, c.push-in-One.ensures.value, c.push-in-One.ensures.items)
 
 pub unary-returns-in-Zero-clause-reads : goal.unary-returns-in-Zero-clause-reads
 unary-returns-in-Zero-clause-reads t c =
     let h = crosses tt c.in-Zero.ensures c.step-in-Zero.ensures.steps in
-    atom node.Zero (λ ts. zero_text) (byte 48 h (stands h)) h.step.same_nodes
-    (refl, refl, c.push-in-Zero.ensures.value ∙ c.step-in-Zero.new.self.syntax.now.nodes.ok.0, c.push-in-Zero.ensures.items)
+    atom node.Zero (λ ts. zero_text) (byte h (stands h)) h.step.same_nodes
+    (refl, refl, c.push-in-Zero.ensures.value, c.push-in-Zero.ensures.items)
 
 pub unary-returns-in-Letter-clause-reads : goal.unary-returns-in-Letter-clause-reads
 unary-returns-in-Letter-clause-reads t c =
     let h = crosses tt c.in-Letter.ensures c.step-in-Letter.ensures.steps in
-    atom (node.Letter c.in-Letter.letter) (λ ts. letter_text _ (stands h).1) (byte _ h (stands h).0) h.step.same_nodes
-    (refl, refl, c.push-in-Letter.ensures.value ∙ c.step-in-Letter.new.self.syntax.now.nodes.ok.0, c.push-in-Letter.ensures.items)
+    atom (node.Letter c.in-Letter.letter) (λ ts. letter_text _ (stands h).1) (byte h (stands h).0) h.step.same_nodes
+    (refl, refl, c.push-in-Letter.ensures.value, c.push-in-Letter.ensures.items)
 
 pub unary-returns-in_err-inner-in-Open-clause-reads : goal.unary-returns-in_err-inner-in-Open-clause-reads
 unary-returns-in_err-inner-in-Open-clause-reads t c = rw (handed_on _ c.from_residual-in_err-inner-in-Open.ensures.1)
