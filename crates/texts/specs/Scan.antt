@@ -3,7 +3,7 @@
 use Rattle.std.specs.Prelude.{ℕ, ◌+◌, cond, List, [], ◌∷◌, length, Ok, Err, Result, ◌==◌, nat_lt}
 use Rattle.pltl.specs.Formulas.{Tree, one, zero, letter, not, next, always, eventually, until, release, and, or, implies}
 use Rattle.texts.specs.declared.Sign.{Sign}
-use Rattle.texts.specs.declared.Sign.TheVariants.{Not, Next, Always, Eventually, Until, Release, And, Or, Minus, Greater, Open, Close, One, Zero, Letter, Other}
+use Rattle.texts.specs.declared.Sign.TheVariants.{Not, Next, Always, Eventually, Until, Release, And, Or, Minus, Greater, Open, Close, One, Zero, Letter}
 use Rattle.texts.specs.declared.faults.TextFault.{TextFault}
 use Rattle.texts.specs.declared.faults.TextFault.TheVariants.{Empty, TooLong, Unexpected, Incomplete}
 use Rattle.texts.specs.Signs.{sign_of}
@@ -40,54 +40,24 @@ step_before i d c t u fs Not = before i d c t (λ x. u (not x)) fs
 step_before i d c t u fs Next = before i d c t (λ x. u (next x)) fs
 step_before i d c t u fs Always = before i d c t (λ x. u (always x)) fs
 step_before i d c t u fs Eventually = before i d c t (λ x. u (eventually x)) fs
-step_before i d c t u fs Until = stuck
-step_before i d c t u fs Release = stuck
-step_before i d c t u fs And = stuck
-step_before i d c t u fs Or = stuck
-step_before i d c t u fs Minus = stuck
-step_before i d c t u fs Greater = stuck
 step_before i d c t u fs Open = before nothing nothing nothing nothing nothing (record { imp = i; dis = d; con = c; tem = t; una = u } ∷ fs)
-step_before i d c t u fs Close = stuck
 step_before i d c t u fs One = after i d c t (u one) fs
 step_before i d c t u fs Zero = after i d c t (u zero) fs
 step_before i d c t u fs (Letter k) = after i d c t (u (letter k)) fs
-step_before i d c t u fs Other = stuck
+step_before i d c t u fs _ = stuck
 
 abbrev pub step_after : Pending → Pending → Pending → Pending → Tree → List Frame → Sign → State
-step_after i d c t v fs Not = stuck
-step_after i d c t v fs Next = stuck
-step_after i d c t v fs Always = stuck
-step_after i d c t v fs Eventually = stuck
 step_after i d c t v fs Until = before i d c (λ x. t (until v x)) nothing fs
 step_after i d c t v fs Release = before i d c (λ x. t (release v x)) nothing fs
 step_after i d c t v fs And = before i d (λ x. c (and (t v) x)) nothing nothing fs
 step_after i d c t v fs Or = before i (λ x. d (or (c (t v)) x)) nothing nothing nothing fs
 step_after i d c t v fs Minus = arrow i d c t v fs
-step_after i d c t v fs Greater = stuck
-step_after i d c t v fs Open = stuck
 step_after i d c t v fs Close = close i d c t v fs
-step_after i d c t v fs One = stuck
-step_after i d c t v fs Zero = stuck
-step_after i d c t v fs (Letter k) = stuck
-step_after i d c t v fs Other = stuck
+step_after i d c t v fs _ = stuck
 
 abbrev pub step_arrow : Pending → Pending → Pending → Pending → Tree → List Frame → Sign → State
-step_arrow i d c t v fs Not = stuck
-step_arrow i d c t v fs Next = stuck
-step_arrow i d c t v fs Always = stuck
-step_arrow i d c t v fs Eventually = stuck
-step_arrow i d c t v fs Until = stuck
-step_arrow i d c t v fs Release = stuck
-step_arrow i d c t v fs And = stuck
-step_arrow i d c t v fs Or = stuck
-step_arrow i d c t v fs Minus = stuck
 step_arrow i d c t v fs Greater = before (λ x. i (implies (d (c (t v))) x)) nothing nothing nothing nothing fs
-step_arrow i d c t v fs Open = stuck
-step_arrow i d c t v fs Close = stuck
-step_arrow i d c t v fs One = stuck
-step_arrow i d c t v fs Zero = stuck
-step_arrow i d c t v fs (Letter k) = stuck
-step_arrow i d c t v fs Other = stuck
+step_arrow i d c t v fs _ = stuck
 
 unfoldable pub step : State → ℕ → State
 step (before i d c t u fs) b = step_before i d c t u fs (sign_of b)
