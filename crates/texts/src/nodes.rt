@@ -48,6 +48,7 @@ impl Syntax {
     }
 
     // Adds a node, and answers its index.
+    #[tactic(auto, using(crate::proofs::Trees::ordered_push))]
     pub(crate) fn push(&mut self, node: Node) -> usize
         requires room { vec_len self.old.nodes < 512 }
         requires parts { below (vec_len self.old.nodes) node ≡ true }
