@@ -52,6 +52,7 @@ impl<'text, 'syntax> Reader<'text, 'syntax> {
     ghost use Rattle.texts.specs.Parsing.{Parses, Steps};
 
     // The sign that comes next; the end of the text is none.
+    #[tactic(auto, using(std::proofs::lemmas::List::at_drop_more), unfolding(crate::specs::Signs::sign_of))]
     fn sign(&self) -> Sign
         ensures { result ≡ sign_from (drop self.now.at self.now.text.now) }
     {

@@ -39,7 +39,6 @@ impl Part {
 
 impl Syntax {
     // The normal form of a part, by its outermost sign.
-    #[tactic(auto, using(crate::proofs::Parts::formula_at_dual))]
     pub fn shape(&self, part: Part) -> Shape<Part>
         ensures value { formula_of (formula_at self.now.nodes.items) result ≡ formula_at self.now.nodes.items part }
         ensures parts { parts_below part.node result ≡ true }
