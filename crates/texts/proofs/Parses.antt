@@ -1,9 +1,11 @@
 -- What the answers of the five levels follow from: a part of a text that is read is one step of the pass, parts
 -- and signs join to larger parts, and where a part fails the pass comes to the same fault. Assumes nothing.
-use Rattle.std.proofs.Common.{◌≡◌, ℕ, ◌+◌, ◌-◌, ◌<◌, ◌≤◌, true, cond, ◌&&◌, ltb, List, [], ◌∷◌, ◌++◌, length, vec_len, get_or, take, drop, Ok, Err, Result, sym, refl, ap, ◌∙◌, subst, ⊎_elim, append_assoc, append-nil, arith, length-append, length-drop, take-add}
-use Rattle.std.specs.Prelude.{IsErrAnd}
-use Rattle.std.proofs.lemmas.List.{drop_more, drop-drop, take_all, at_drop_more, at_drop_all, take-append-drop, length-take-le, length_push}
-use Rattle.std.proofs.lemmas.Bool.{cases_lt, and_from, lt-ltb, le-ltb, cond-true, cond-false}
+use Rattle.std.proofs.Common.{◌≡◌, ℕ, ◌+◌, ◌-◌, ◌<◌, ◌≤◌, cond, ltb, List, [], ◌∷◌, ◌++◌, length, vec_len, get_or, take, drop, Ok, Err, Result, sym, refl, ap, ◌∙◌, subst, ⊎_elim, append_assoc, append-nil, arith, length-append, length-drop}
+use Rattle.std.specs.Prelude.{IsErrAnd, slice_range}
+use Rattle.std.proofs.Math.Seq.{take-append_seam}
+use Rattle.std.proofs.lemmas.List.Folds.{drop_split}
+use Rattle.std.proofs.lemmas.List.{drop_more, take_all, at_drop_more, at_drop_all, length-take-le, length_push}
+use Rattle.std.proofs.lemmas.Bool.{cases_lt, lt-ltb, le-ltb, cond-true, cond-false}
 use Rattle.pltl.specs.Formulas.{Tree, one, and, or, implies}
 use Rattle.texts.specs.declared.Sign.{Sign}
 use Rattle.texts.specs.declared.Sign.TheVariants.{Not, Next, Always, Eventually, Until, Release, And, Or, Minus, Greater, Open, Close, One, Zero, Letter, Other}
@@ -67,67 +69,49 @@ past_minus _ n h = omega arith
 
 -- Parts of a text.
 
--- the bytes from a up to b
-abbrev pub part : List ℕ → ℕ → ℕ → List ℕ
-part text a b = take (b - a) (drop a text)
-
-module _ (text : List ℕ) where
-  pub part_append : (a b c : ℕ) → a ≤ b → b ≤ c → part text a c ≡ part text a b ++ part text b c
-  part_append a b c h k =
-      let e : c - a ≡ b - a + (c - b) = omega arith in
-      let d : a + (b - a) ≡ b = omega arith in
-      ap (λ n. take n (drop a text)) e ∙ take-add (b - a) (c - b) (drop a text)
-      ∙ ap (λ w. part text a b ++ take (c - b) w) (drop-drop (b - a) a text ∙ ap (λ n. drop n text) d)
-
-  pub part_rest : (a b : ℕ) → a ≤ b → part text a b ++ drop b text ≡ drop a text
-  part_rest a b h =
-      let d : a + (b - a) ≡ b = omega arith in
-      ap (λ w. part text a b ++ w) (sym (drop-drop (b - a) a text ∙ ap (λ n. drop n text) d)) ∙ take-append-drop (b - a) (drop a text)
-
-  pub part_length : (a b : ℕ) → a ≤ b → b ≤ length text → a + length (part text a b) ≡ b
-  part_length a b h k =
-      let e = length-drop a text in
-      let l : length (part text a b) ≡ b - a = length-take-le (b - a) (drop a text) (omega arith) in
-      omega arith
-
-  pub part_one : (a : ℕ) → a < length text → part text a (a + 1) ≡ get_or text a 0 ∷ []
-  part_one a h =
-      let e : a + 1 - a ≡ 1 = omega arith in
-      ap (λ n. take n (drop a text)) e ∙ ap (take 1) (drop_more text a 0 h)
-
 -- r' is r over the bytes w
 pub record Over (r r' : Reader) (w : List ℕ) : Type 0 where
   pub same_text : r'.text.now ≡ r.text.now
   pub ahead : r.at < r'.at
-  pub are : passed r r' ≡ w
+  pub at : r'.at ≡ r.at + length w
+  pub split : rest r ≡ w ++ rest r'
 
 -- a sign of one byte
 pub byte : {g : Sign} {r r' : Reader} {b : ℕ} → Crosses g r r' → get_or r.text.now r.at 0 ≡ b → Over r r' (b ∷ [])
 byte {r = r} h e = record {
   same_text = h.step.same_text;
   ahead = omega (arith, h.step.at);
-  are = ap (part r.text.now r.at) h.step.at ∙ part_one r.text.now r.at h.lies ∙ ap (λ x. x ∷ []) e;
+  at = h.step.at;
+  split = cc (drop_more r.text.now r.at 0 h.lies, e, h.step.at, h.step.same_text);
 }
 
 infixr 5 ◌followed-by◌
 pub ◌followed-by◌ : {r r₁ r₂ : Reader} {v w : List ℕ} → Over r r₁ v → Over r₁ r₂ w → Over r r₂ (v ++ w)
-◌followed-by◌ {r = r} {r₁ = r₁} {r₂ = r₂} f g =
-    let h : r.at ≤ r₁.at = omega (arith, f.ahead) in
-    let k : r₁.at ≤ r₂.at = omega (arith, g.ahead) in
-    let e : part r.text.now r₁.at r₂.at ≡ part r₁.text.now r₁.at r₂.at = ap (λ t. part t r₁.at r₂.at) (sym f.same_text) in
+◌followed-by◌ {r₂ = r₂} {v = v} {w = w} f g = record {
+  same_text = g.same_text ∙ f.same_text;
+  ahead = omega (arith, f.ahead, g.ahead);
+  at = omega (arith, f.at, g.at, length-append v w);
+  split = f.split ∙ ap (λ x. v ++ x) g.split ∙ sym (append_assoc v w (rest r₂));
+}
+
+pub passed_over : {r r' : Reader} {w : List ℕ} → Over r r' w → passed r r' ≡ w
+passed_over {r = r} {r' = r'} {w = w} b =
+    let e : r'.at - r.at ≡ length w = omega (arith, b.at) in
+    ap (λ n. take n (rest r)) e ∙ ap (take (length w)) b.split ∙ take-append_seam w (rest r')
+
+-- the bytes that a part was read from
+pub read_bytes : {l : Level} {r r' : Reader} {p : ℕ} → ReadAs l r r' p → Over r r' (passed r r')
+read_bytes {r = r} {r' = r'} f =
+    let h : r.at ≤ r'.at = omega (arith, f.ahead) in
+    let long : length (passed r r') ≡ r'.at - r.at = length-take-le (r'.at - r.at) (rest r) (omega (arith, length-drop r.at r.text.now, r'.within, ap length f.same_text)) in
     record {
-      same_text = g.same_text ∙ f.same_text;
-      ahead = omega (arith, f.ahead, g.ahead);
-      are = part_append r.text.now r.at r₁.at r₂.at h k ∙ cc (f.are, g.are);
+      same_text = f.same_text;
+      ahead = f.ahead;
+      at = omega arith;
+      split = drop_split r.text.now r.at r'.at h ∙ ap (λ t. passed r r' ++ drop r'.at t) (sym f.same_text);
     }
 
 -- What is read.
-
--- the nodes of two parts stand before the next
-pub parts_before : {l l' : Level} {r r₁ r₂ r₃ : Reader} {p q : ℕ} → ReadAs l r r₁ p → Steps r₁ r₂ → ReadAs l' r₂ r₃ q → (n : ℕ) → n ≡ length (nodes_of r₃) → (ltb p n && ltb q n) ≡ true
-parts_before {r₂ = r₂} {p = p} {q = q} f s g n e =
-    let h : length (nodes_of r₂) ≤ n = omega (arith, ap length g.grown.1, length-append (nodes_of r₂) g.grown.0) in
-    and_from (ltb p n) (ltb q n) (lt-ltb p n (omega (arith, f.made, ap length s.same_nodes))) (lt-ltb q n (omega (arith, g.made)))
 
 -- a part is one of a looser level if the sign that follows does not go on there
 pub alone : {l l' : Level} {r r' : Reader} {p : ℕ} {g : Sign} → ((t : Tree) (w : List ℕ) → Spells l t w → Spells l' t w) →
@@ -157,7 +141,7 @@ pushed {l = l} {r = r} {r₁ = r₁} {r₂ = r₂} {n = n} {w = w} node b g few 
     let long₂ : length (nodes_of r₂) ≡ length (nodes_of r₁) + 1 = ap length e ∙ long in
     let t : tree_over (trees (nodes_of r₁)) node ≡ tree_at (nodes_of r₂) n =
     sym (ap (tree_at (nodes_of r₂)) nth ∙ ap (λ m. tree_at m (length (nodes_of r₁))) e ∙ tree_push (nodes_of r₁) node) in
-    let are : w ≡ passed r r₂ = sym b.are ∙ ap (part r.text.now r.at) (sym a.1) in
+    let are : w ≡ passed r r₂ = sym (passed_over b) ∙ ap (slice_range r.text.now r.at) (sym a.1) in
     let rests : rest r₁ ≡ rest r₂ = cc (a.0, a.1) in
     record {
       same_text = a.0 ∙ b.same_text;
@@ -168,10 +152,6 @@ pushed {l = l} {r = r} {r₁ = r₁} {r₂ = r₂} {n = n} {w = w} node b g few 
       spells = subst (λ x. Spells l x (passed r r₂)) t (subst (Spells l (tree_over (trees (nodes_of r₁)) node)) are s);
       stops = subst (λ v. rank l < looseness (sign_from v)) rests k;
     }
-
--- the bytes that a part was read from
-pub read_bytes : {l : Level} {r r' : Reader} {p : ℕ} → ReadAs l r r' p → Over r r' (passed r r')
-read_bytes f = record { same_text = f.same_text; ahead = f.ahead; are = refl }
 
 -- two parts and the sign between them
 module _ {l l' : Level} {r r₁ r₂ r₃ r₄ : Reader} {p q n : ℕ} {op : List ℕ} (node : Node) (J : Tree → Tree → Tree)
@@ -218,7 +198,7 @@ in_brackets {r = r} {r₁ = r₁} {r₂ = r₂} {r₃ = r₃} {p = p} o f k =
       grown = (f.grown.0, k.step.same_nodes ∙ f.grown.1 ∙ ap (λ x. x ++ f.grown.0) o.step.same_nodes);
       few = omega (arith, f.few, o.step.at, k.step.at);
       spells = subst (λ x. Spells unary (tree_at x p) (passed r r₃)) (sym k.step.same_nodes)
-          (subst (Spells unary (tree_at (nodes_of r₂) p)) (sym b.are) (bracket_text f.spells));
+          (subst (Spells unary (tree_at (nodes_of r₂) p)) (sym (passed_over b)) (bracket_text f.spells));
       stops = every_loose (sign_from (rest r₃));
     }
 
@@ -227,10 +207,8 @@ in_brackets {r = r} {r₁ = r₁} {r₂ = r₂} {r₃ = r₃} {p = p} o f k =
 -- a part that is read leads the pass past it
 pub over : {l : Level} {r r' : Reader} {p : ℕ} {s z : State} → ReadAs l r r' p → Leads s (passed r r') z → outcome r s ≡ outcome r' z
 over {r = r} {r' = r'} {s = s} {z = z} f g =
-    let h : r.at ≤ r'.at = omega (arith, f.ahead) in
-    let k : r'.at ≤ length r.text.now = omega (arith, r'.within, ap length f.same_text) in
-    ap (scan r.at s) (sym (part_rest r.text.now r.at r'.at h)) ∙ g.same r.at (drop r'.at r.text.now)
-    ∙ ap (λ n. scan n z (drop r'.at r.text.now)) (part_length r.text.now r.at r'.at h k) ∙ ap (λ t. scan r'.at z (drop r'.at t)) (sym f.same_text)
+    let b = read_bytes f in
+    ap (scan r.at s) b.split ∙ g.same r.at (rest r') ∙ ap (λ n. scan n z (rest r')) (sym b.at)
 
 -- one step of the pass, by the sign
 abbrev pub by_sign : State → Sign → State
@@ -241,10 +219,8 @@ by_sign stuck g = stuck
 
 pub step_by_sign : (s : State) (b : ℕ) → step s b ≡ by_sign s (sign_of b)
 unfolding step
-step_by_sign (before i d c t u fs) b = refl
-step_by_sign (after i d c t v fs) b = refl
-step_by_sign (arrow i d c t v fs) b = refl
 step_by_sign stuck b = refl
+step_by_sign _ b = refl
 
 pub stepped : {g : Sign} {r r' : Reader} (s : State) → Crosses g r r' → outcome r s ≡ unless_stuck r.at (by_sign s g) (outcome r' (by_sign s g))
 unfolding scan

@@ -9,7 +9,7 @@ use Rattle.texts.specs.declared.faults.TextFault.TheVariants.{Unexpected}
 use Rattle.texts.specs.Signs.{sign_of}
 use Rattle.texts.specs.Grammar
 use Rattle.texts.specs.Grammar.{Level, implication, disjunction, conjunction, temporal, unary, Spells, Begins}
-use Rattle.texts.specs.Scan.{Pending, nothing, Frame, State, before, after, arrow, stuck, step, step_before, unless_stuck, scan, start}
+use Rattle.texts.specs.Scan.{Pending, nothing, Frame, State, before, after, stuck, step, step_before, unless_stuck, scan, start}
 
 -- The bytes w lead the pass from s to z, whatever follows them.
 pub record Leads (s : State) (w : List ℕ) (z : State) : Type 0 where
@@ -24,16 +24,12 @@ pub ◌then◌ : {s y z : State} {v w : List ℕ} → Leads s v y → Leads y w 
 }
 
 abbrev pub Live : State → Type 0
-Live (before i d c t u fs) = Unit
-Live (after i d c t v fs) = Unit
-Live (arrow i d c t v fs) = Unit
 Live stuck = ⊥
+Live _ = Unit
 
 pub unless_live : (n : ℕ) (s : State) (r : Result Tree TextFault) → Live s → unless_stuck n s r ≡ r
-unless_live n (before i d c t u fs) r h = refl
-unless_live n (after i d c t v fs) r h = refl
-unless_live n (arrow i d c t v fs) r h = refl
 unless_live n stuck r h = absurd h
+unless_live n _ r h = refl
 
 pub step_leads : (s : State) (b : ℕ) → Live (step s b) → Leads s (b ∷ []) (step s b)
 unfolding scan

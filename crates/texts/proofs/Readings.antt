@@ -14,17 +14,13 @@ use Rattle.texts.proofs.Frames.{Valid, step_keeps, begins_part, valid_begins, va
 -- `Says w r`: r is the answer for the text w, whatever its size.
 abbrev pub Says : List ℕ → Result Tree TextFault → Type 0
 Says w (Ok t) = Spells implication t w
-Says w (Err Empty) = ⊥
-Says w (Err TooLong) = ⊥
 Says w (Err (Unexpected i)) = (i < length w) × Begins (take i w) × (Begins (take (i + 1) w) → ⊥)
 Says w (Err (Incomplete n)) = (n ≡ length w) × Begins w × (FormulaText w → ⊥)
-Says w (Err Full) = ⊥
+Says w (Err _) = ⊥
 
 stuck_or_live : (s : State) → (s ≡ stuck) ⊎ Live s
-stuck_or_live (before i d c t u fs) = inr tt
-stuck_or_live (after i d c t v fs) = inr tt
-stuck_or_live (arrow i d c t v fs) = inr tt
 stuck_or_live stuck = inl refl
+stuck_or_live _ = inr tt
 
 unfinished : {s : State} {q : List ℕ} → Live s → Leads start q s → Valid s q → ended (0 + length q) s ≡ Err (Incomplete (0 + length q)) → Says q (Err (Incomplete (length q)))
 unfolding scan
@@ -76,24 +72,20 @@ text_begins f = ([], (f.0, rw append-nil f.1))
 module _ (w : List ℕ) (i : ℕ) (here : Begins (take i w)) (over : Begins (take (i + 1) w) → ⊥) where
   only_unexpected : (r : Result Tree TextFault) → Says w r → r ≡ Err (Unexpected i)
   only_unexpected (Ok t) h = absurd (over (begins_take (i + 1) w (text_begins (t, h))))
-  only_unexpected (Err Empty) h = absurd h
-  only_unexpected (Err TooLong) h = absurd h
   only_unexpected (Err (Unexpected j)) h = elim (cases_order i j) [
     | inl e ↦ ap (λ n. Err (Unexpected n)) (sym e)
     | inr (inl l) ↦ absurd (over (begins_earlier i j w l h.1))
     | inr (inr l) ↦ absurd (h.2 (begins_earlier j i w l here))
   ]
   only_unexpected (Err (Incomplete n)) h = absurd (over (begins_take (i + 1) w h.1))
-  only_unexpected (Err Full) h = absurd h
+  only_unexpected (Err _) h = absurd h
 
 module _ (w : List ℕ) (begun : Begins w) (none : FormulaText w → ⊥) where
   only_incomplete : (r : Result Tree TextFault) → Says w r → r ≡ Err (Incomplete (length w))
   only_incomplete (Ok t) h = absurd (none (t, h))
-  only_incomplete (Err Empty) h = absurd h
-  only_incomplete (Err TooLong) h = absurd h
   only_incomplete (Err (Unexpected j)) h = absurd (h.2 (begins_take (j + 1) w begun))
   only_incomplete (Err (Incomplete n)) h = ap (λ m. Err (Incomplete m)) h.0
-  only_incomplete (Err Full) h = absurd h
+  only_incomplete (Err _) h = absurd h
 
 pub sized_reading : (w : List ℕ) → Sized w → reading w ≡ scan 0 start w
 unfolding reading
@@ -102,11 +94,9 @@ sized_reading w h =
 
 reads_said : (w : List ℕ) (r : Result Tree TextFault) → Sized w → Says w r → Reads w r
 reads_said w (Ok t) z h = (z, h)
-reads_said w (Err Empty) z h = absurd h
-reads_said w (Err TooLong) z h = absurd h
 reads_said w (Err (Unexpected i)) z h = (z, h.0, h.1, h.2)
 reads_said w (Err (Incomplete n)) z h = (z, h.0, h.1, h.2)
-reads_said w (Err Full) z h = absurd h
+reads_said w (Err _) z h = absurd h
 
 pub reads_reading : (w : List ℕ) → Reads w (reading w)
 unfolding reading

@@ -1,5 +1,5 @@
 -- What the functions of the five levels answer. Assumes nothing.
-use Rattle.std.specs.Prelude.{◌≡◌, ℕ, ◌+◌, ◌-◌, ◌<◌, ◌≤◌, List, ◌++◌, length, take, drop, Ok, Err, Result}
+use Rattle.std.specs.Prelude.{◌≡◌, ℕ, ◌+◌, ◌<◌, ◌≤◌, List, ◌++◌, length, drop, slice_range, Ok, Err, Result}
 use Rattle.pltl.specs.Formulas.{Tree}
 use Rattle.texts.specs.declared.Sign.{Sign}
 use Rattle.texts.specs.declared.Sign.TheVariants.{Until, Release, And, Or, Minus}
@@ -36,7 +36,7 @@ nodes_of r = r.syntax.now.nodes.items
 
 -- the bytes from where r stands up to where r' stands
 abbrev pub passed : Reader → Reader → List ℕ
-passed r r' = take (r'.at - r.at) (rest r)
+passed r r' = slice_range r.text.now r.at r'.at
 
 -- r' is r over one byte
 pub record Steps (r r' : Reader) : Type 0 where

@@ -1,5 +1,5 @@
 // The lexer, and the five levels of the grammar.
-ghost use Rattle.std.specs.Prelude.{◌≡◌, ◌<◌, ◌≤◌, length, drop, if◌then◌else◌, vec_len, nat_lt};
+ghost use Rattle.std.specs.Prelude.{◌≡◌, ◌<◌, ◌≤◌, length, if◌then◌else◌, vec_len, nat_lt};
 ghost use Rattle.texts.specs.declared.faults.TextFault.TheVariants.{Unexpected, Incomplete};
 ghost use Rattle.texts.specs.Reading.{Reads};
 ghost use Rattle.texts.specs.Scan.{reading};
@@ -49,12 +49,12 @@ struct Reader<'text, 'syntax> {
 
 impl<'text, 'syntax> Reader<'text, 'syntax> {
     ghost use Rattle.texts.specs.Grammar.{implication, disjunction, conjunction, temporal, unary};
-    ghost use Rattle.texts.specs.Parsing.{Parses, Steps};
+    ghost use Rattle.texts.specs.Parsing.{Parses, Steps, rest};
 
     // The sign that comes next; the end of the text is none.
     #[tactic(auto, using(std::proofs::lemmas::List::at_drop_more), unfolding(crate::specs::Signs::sign_of))]
     fn sign(&self) -> Sign
-        ensures { result ≡ sign_from (drop self.now.at self.now.text.now) }
+        ensures { result ≡ sign_from (rest self.now) }
     {
         match self.text.get(self.at) {
             Some(byte) => Sign::of(*byte),
