@@ -104,7 +104,7 @@ Row S i d c t = Behind (Behind (Behind (Behind S implication i) disjunction d) c
 -- The bytes up to the innermost open bracket.
 abbrev pub Stack : List Frame → List ℕ → Type 0
 Stack [] p = p ≡ []
-Stack (f ∷ fs) p = (q : List ℕ) × Behind (Row (Stack fs) f.imp f.dis f.con f.tem) unary f.una q × (p ≡ q ++ codes "(")
+Stack (f ∷ fs) p = (q : List ℕ) × Behind (Row (Stack fs) f.implication f.disjunction f.conjunction f.temporal) unary f.unary q × (p ≡ q ++ codes "(")
 
 -- `Valid s q`: the state s fits the bytes q read so far.
 abbrev pub Valid : State → List ℕ → Type 0
@@ -132,12 +132,12 @@ module _ {S : List ℕ → Type 0} {i d c t : Pending} {v : Tree} {q : List ℕ}
   at_implication = looser (λ w. disjunction_alone) at_disjunction
 
 closed : {v : Tree} {q : List ℕ} (f : Frame) (fs : List Frame) → Ends (Stack (f ∷ fs)) implication v q →
-    Ends (Row (Stack fs) f.imp f.dis f.con f.tem) unary (f.una v) (q ++ codes ")")
+    Ends (Row (Stack fs) f.implication f.disjunction f.conjunction f.temporal) unary (f.unary v) (q ++ codes ")")
 closed {v = v} {q = q} f fs h =
     let o : List ℕ = h.holds.0 in
     let w : List ℕ = h.bytes in
     let e : o ++ (codes "(" ++ (w ++ codes ")")) ≡ q ++ codes ")" = rw (h.split, h.holds.2) (simp append_assoc) in
-    subst (Ends (Row (Stack fs) f.imp f.dis f.con f.tem) unary (f.una v)) e (fill h.holds.1 (bracket_text h.spells))
+    subst (Ends (Row (Stack fs) f.implication f.disjunction f.conjunction f.temporal) unary (f.unary v)) e (fill h.holds.1 (bracket_text h.spells))
 
 close_keeps : {i d c t : Pending} {v : Tree} {q : List ℕ} (fs : List Frame) → Valid (after i d c t v fs) q → Valid (close i d c t v fs) (q ++ codes ")")
 close_keeps [] h = tt

@@ -290,7 +290,7 @@ signed_fails {r = r} {r' = r'} P e h k i d c t u fs =
     stepped _ h ∙ ap (λ z. unless_stuck r.at z (outcome r' z)) (e i d c t u fs) ∙ k i d c t (λ x. u (P x)) fs
 
 pub bracket_fails : {r r' : Reader} {f : TextFault} → Crosses Open r r' → Fails implication r' f → Fails unary r f
-bracket_fails h k i d c t u fs = stepped _ h ∙ k nothing (record { imp = i; dis = d; con = c; tem = t; una = u } ∷ fs)
+bracket_fails h k i d c t u fs = stepped _ h ∙ k nothing (record { implication = i; disjunction = d; conjunction = c; temporal = t; unary = u } ∷ fs)
 
 module _ {r r₁ r₂ : Reader} {p : ℕ} {f : TextFault} where
   pub temporal_fails : {g : Sign} (J : Tree → Tree → Tree) →
@@ -327,7 +327,7 @@ module _ {r r₁ r₂ : Reader} {p : ℕ} {f : TextFault} where
   pub unclosed : {g : Sign} → Crosses Open r r₁ → ReadAs implication r₁ r₂ p → g ≡ sign_from (rest r₂) → (g ≡ Close → ⊥) →
       f ≡ cond (ltb r₂.at (length r₂.text.now)) (Unexpected r₂.at) (Incomplete (length r₂.text.now)) → Fails unary r f
   unclosed h a e n q i d c t u fs =
-      let gs : List Frame = record { imp = i; dis = d; con = c; tem = t; una = u } ∷ fs in
+      let gs : List Frame = record { implication = i; disjunction = d; conjunction = c; temporal = t; unary = u } ∷ fs in
       let l = through a.spells nothing gs in
       stepped _ h ∙ over a l.6
       ∙ unwanted_at r₂ (after l.0 l.1 l.2 l.3 l.4 gs) e (close_only l.0 l.1 l.2 l.3 l.4 gs _ (subst (λ g. 4 < looseness g) (sym e) a.stops) (λ x. absurd (n x))) refl q

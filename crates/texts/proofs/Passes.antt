@@ -95,7 +95,7 @@ through (Grammar.letter_text k h) = letter_leads k h
 through Grammar.one_text = λ i d c k u fs. step_leads _ 49 tt
 through Grammar.zero_text = λ i d c k u fs. step_leads _ 48 tt
 through (Grammar.bracket_text {t = t} {w = w} h) = λ i d c k u fs.
-    let r = through h nothing (record { imp = i; dis = d; con = c; tem = k; una = u } ∷ fs) in
+    let r = through h nothing (record { implication = i; disjunction = d; conjunction = c; temporal = k; unary = u } ∷ fs) in
     subst (λ x. Leads (before i d c k u fs) (40 ∷ (w ++ codes ")")) (after i d c k (u x) fs)) r.5 (step_leads _ 40 tt then r.6 then step_leads _ 41 tt)
 
 -- A text that spells a tree is answered with it.

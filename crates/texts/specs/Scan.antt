@@ -17,11 +17,11 @@ nothing t = t
 -- What is pending inside one pair of brackets, or outside all: left sides of `->`, `|`, `&`, `U` and `R`
 -- whose right side is still to come, and one-sided signs.
 pub record Frame : Type 0 where
-  pub imp : Pending
-  pub dis : Pending
-  pub con : Pending
-  pub tem : Pending
-  pub una : Pending
+  pub implication : Pending
+  pub disjunction : Pending
+  pub conjunction : Pending
+  pub temporal : Pending
+  pub unary : Pending
 
 -- Where the pass is: before a unary, after one, after the minus of `->`, or past all hope. The list has the
 -- frames outside the open brackets, the innermost first.
@@ -33,14 +33,15 @@ pub data State : Type 0 where
 
 abbrev pub close : Pending → Pending → Pending → Pending → Tree → List Frame → State
 close i d c t v [] = stuck
-close i d c t v (f ∷ fs) = after f.imp f.dis f.con f.tem (f.una (i (d (c (t v))))) fs
+close i d c t v (f ∷ fs) = after f.implication f.disjunction f.conjunction f.temporal (f.unary (i (d (c (t v))))) fs
 
+-- One step of the pass, by the sign that comes next; a sign that is not named leads nowhere.
 abbrev pub step_before : Pending → Pending → Pending → Pending → Pending → List Frame → Sign → State
 step_before i d c t u fs Not = before i d c t (λ x. u (not x)) fs
 step_before i d c t u fs Next = before i d c t (λ x. u (next x)) fs
 step_before i d c t u fs Always = before i d c t (λ x. u (always x)) fs
 step_before i d c t u fs Eventually = before i d c t (λ x. u (eventually x)) fs
-step_before i d c t u fs Open = before nothing nothing nothing nothing nothing (record { imp = i; dis = d; con = c; tem = t; una = u } ∷ fs)
+step_before i d c t u fs Open = before nothing nothing nothing nothing nothing (record { implication = i; disjunction = d; conjunction = c; temporal = t; unary = u } ∷ fs)
 step_before i d c t u fs One = after i d c t (u one) fs
 step_before i d c t u fs Zero = after i d c t (u zero) fs
 step_before i d c t u fs (Letter k) = after i d c t (u (letter k)) fs

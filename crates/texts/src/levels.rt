@@ -44,6 +44,7 @@ struct Reader<'text, 'syntax> {
     syntax: &'syntax mut Syntax,
     ghost short: { length text.now ≤ 512 },
     ghost within: { at ≤ length text.now },
+    // No more nodes than bytes were read.
     ghost few: { vec_len syntax.now.nodes ≤ at },
 }
 
