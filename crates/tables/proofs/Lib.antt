@@ -5,7 +5,9 @@ pub mod Listed
 pub mod Added
 pub mod Answered
 pub mod BitTests
-pub mod Members
+pub mod InSets
+pub mod MadeWords
+pub mod SetLists
 pub mod Chosen
 pub mod Sweeps
 pub mod SweptWords

@@ -1,9 +1,9 @@
 -- Recorded states: how many there are, each of them, and one more. Assumes nothing.
-use Rattle.std.proofs.Common.{◌≡◌, ℕ, zero, suc, ◌+◌, ◌^◌, ◌<◌, ◌≤◌, Bool, true, false, ◌&&◌, ◌||◌, ltb, List, [], ◌∷◌, ◌++◌, length, get_or, set, replicate, sym, refl, ap, ◌∙◌, subst, ap₂, ⊎_elim, add-one, arith, pow_mono}
+use Rattle.std.proofs.Common.{◌≡◌, ℕ, zero, suc, ◌+◌, ◌^◌, ◌<◌, ◌≤◌, Bool, true, false, ◌&&◌, ◌||◌, ltb, List, [], ◌∷◌, ◌++◌, length, get_or, replicate, sym, refl, ap, ◌∙◌, subst, ap₂, ⊎_elim, add-one, arith, pow_mono}
 use lib.Bits.{bit_or}
 use Rattle.std.proofs.lemmas.Nat.{or_lt, pow_below}
-use Rattle.std.proofs.lemmas.List.{length_push, length-set, length-replicate, get_or_append_left, get_or_push, get_or_past, get_or-replicate, get_or-set_same, get_or-set_other, set-get_or}
-use Rattle.std.proofs.lemmas.Bool.{cases_lt, cases_Bool, and_from, and_left, and_right, lt-ltb, le-ltb, cond-true, cond-false, cond_both, or_right, eq-eqb, ne_eqb}
+use Rattle.std.proofs.lemmas.List.{length_push, length-replicate, get_or_append_left, get_or_push, get_or_past, get_or-replicate}
+use Rattle.std.proofs.lemmas.Bool.{cases_lt, cases_Bool, cond-true, cond-false, cond_both, or_right, eq-eqb, ne_eqb}
 use Rattle.pltl.specs.Runs.{no_letters}
 use Rattle.pltl.specs.Truth.{State}
 use Rattle.tables.specs.Rows.{bit, state_of, recorded}
@@ -65,32 +65,6 @@ module _ (ws vs : List ℕ) (letters at : ℕ) (clean : (p : ℕ) → get_or ws 
   pub recorded_marked : recorded vs (at + 1) ≡ recorded ws at ++ state_of letters ∷ []
   unfolding recorded
   recorded_marked = ap (recorded vs) (add-one at) ∙ ap₂ (λ (l : List State) (s : State). l ++ s ∷ []) (recorded_before at (omega arith)) (λ j p. marked_here p j)
-
--- one turn of the loop over the letters
-module _ (ws seen : List ℕ) (letters at p : ℕ) (inside : p < 26) (long : length seen ≡ 26)
-    (before : (k : ℕ) → k < p → get_or seen k 0 ≡ marked ws letters at k) (after : (k : ℕ) → p ≤ k → get_or seen k 0 ≡ get_or ws k 0) where
-  letter_is : get_or seen p 0 ≡ get_or ws p 0
-  letter_is = after p (omega arith)
-
-  pub letter_marked : bit letters p ≡ true → bit_or (get_or seen p 0) (2 ^ at) ≡ marked ws letters at p
-  letter_marked t = ap (λ w. bit_or w (2 ^ at)) letter_is ∙ sym (cond-true _ _ _ (and_from (ltb p 26) (bit letters p) (lt-ltb p 26 inside) t))
-
-  pub letter_kept : bit letters p ≡ false → seen ≡ set seen p (marked ws letters at p)
-  letter_kept f = sym (set-get_or seen p 0) ∙ ap (set seen p) (letter_is ∙ sym (cond-false _ _ _ (and_right (ltb p 26) (bit letters p) f)))
-
-  pub mark_step : (next : List ℕ) → next ≡ set seen p (marked ws letters at p) →
-      (length next ≡ 26) × ((k : ℕ) → k < p + 1 → get_or next k 0 ≡ marked ws letters at k) × ((k : ℕ) → p + 1 ≤ k → get_or next k 0 ≡ get_or ws k 0)
-  mark_step next is = (
-    ap length is ∙ length-set seen p _ ∙ long,
-    λ k lt. ⊎_elim
-        (λ l. ap (λ v. get_or v k 0) is ∙ get_or-set_other seen p k _ 0 (omega arith) ∙ before k l)
-        (λ g. let e : p ≡ k = omega arith in subst (λ j. get_or next j 0 ≡ marked ws letters at j) e (ap (λ v. get_or v p 0) is ∙ get_or-set_same seen p _ 0 (omega arith)))
-        (cases_lt k p),
-    λ k le. ap (λ v. get_or v k 0) is ∙ get_or-set_other seen p k _ 0 (omega arith) ∙ after k (omega arith),
-  )
-
-pub marked_past : (ws : List ℕ) (letters at p : ℕ) → 26 ≤ p → get_or ws p 0 ≡ marked ws letters at p
-marked_past ws letters at p le = sym (cond-false _ _ _ (and_left (ltb p 26) (bit letters p) (le-ltb p 26 le)))
 
 pub zeros : (n p : ℕ) → get_or (replicate n 0) p 0 < 1
 zeros n p =

@@ -10,6 +10,6 @@ mod words;
 
 pub use number::Number;
 pub use rows::Rows;
-pub use sequent::Sequent;
+pub use sequent::{Members, Sequent};
 pub use states::{MOST_POSITIONS, States};
 pub use table::{Form, Table};

@@ -8,7 +8,6 @@ ghost use Rattle.tables.specs.Rows.{bit, recorded, RowOf};
 
 use super::number::Number;
 use super::states::States;
-use super::table::NUMBERS;
 use super::words::{both, complement, either, holds_at, next, positions, until};
 use pltl::Shape;
 
@@ -30,8 +29,7 @@ impl Rows {
     pub fn row(&self, n: Number) -> u64
         ensures { result ≡ slice_index self.now.words n.0 }
     {
-        let n = n.0 as usize;
-        if n < NUMBERS { self.words[n] } else { 0 }
+        self.words.get(n.0 as usize).copied().unwrap_or(0)
     }
 
     // Whether position 0 satisfies the formula of a number.

@@ -5,4 +5,7 @@ pub struct Sequent {
     words: [u64; 8],
 }
 
+mod iter;
 mod members;
+
+pub use iter::Members;

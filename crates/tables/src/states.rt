@@ -8,9 +8,6 @@ use super::words::{holds_at, only};
 // How many positions are held at most: one for each bit of a word.
 pub const MOST_POSITIONS: usize = 64;
 
-// How many letters there are.
-const LETTERS: usize = 26;
-
 // The states of a run that is recorded. Bit i of a letter's word says whether the letter holds at position i.
 #[derive(Clone, Copy)]
 pub struct States {
@@ -26,9 +23,9 @@ fn mark(words: [u64; 26], letters: u32, at: usize) -> [u64; 26]
     ensures { (p : ℕ) → slice_index result p ≡ marked words letters at p }
 {
     let mut words = words;
-    for p in 0..LETTERS {
+    for (p, word) in words.iter_mut().enumerate() {
         if holds_at(letters as u64, p) {
-            words[p] |= only(at);
+            *word |= only(at);
         }
     }
     words
@@ -73,7 +70,6 @@ impl States {
     pub(crate) fn letter(&self, p: u8) -> u64
         ensures { result ≡ slice_index self.now.letters p }
     {
-        let p = p as usize;
-        if p < LETTERS { self.letters[p] } else { 0 }
+        self.letters.get(p as usize).copied().unwrap_or(0)
     }
 }

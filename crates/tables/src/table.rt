@@ -1,5 +1,5 @@
 // The table, as a list of shapes: a formula's number is its index.
-ghost use Rattle.std.specs.Prelude.{◌≡◌, ◌%◌, ◌<◌, ◌≤◌, true, [], ◌∷◌, length, IfOk, vec_len, vec_capacity, Decides, MatchOption};
+ghost use Rattle.std.specs.Prelude.{◌≡◌, ◌%◌, ◌<◌, ◌≤◌, true, [], ◌∷◌, length, IfOk, vec_len, vec_capacity, MatchOption};
 ghost use Rattle.pltl.specs.Formulas.{True, False};
 ghost use Rattle.tables.specs.Entering.{added};
 ghost use Rattle.tables.specs.Listing.{formulas, numbered, formula_over, parts_below, PartsFirst, Lawful};
@@ -28,13 +28,6 @@ pub struct Table {
     ghost lawful: { ∥ Lawful (formulas shapes.items) ∥₁ },
 }
 
-// Whether two shapes are one.
-fn same(a: Shape<Number>, b: Shape<Number>) -> bool
-    ensures { Decides result (a ≡ b) }
-{
-    a == b
-}
-
 impl Table {
     // A table with true and false alone.
     pub fn new(heap: Global) -> Result<Table, AllocError>
@@ -58,11 +51,7 @@ impl Table {
     pub fn shape(&self, n: Number) -> Option<Shape<Number>>
         ensures { MatchOption result (length (formulas self.now.shapes.items) ≤ n.0) (λ s. (n.0 < length (formulas self.now.shapes.items)) × (formula_over (formulas self.now.shapes.items) s ≡ numbered (formulas self.now.shapes.items) n.0) × (parts_below n.0 s ≡ true)) }
     {
-        let n = n.0 as usize;
-        if n >= self.shapes.len() {
-            return None;
-        }
-        Some(self.shapes[n])
+        self.shapes.get(n.0 as usize).copied()
     }
 
     // The number of a formula that is in the table, by its shape.
@@ -70,12 +59,8 @@ impl Table {
         requires { parts_below (length (formulas self.now.shapes.items)) shape ≡ true }
         ensures { Finds (formulas self.now.shapes.items) (formula_over (formulas self.now.shapes.items) shape) result }
     {
-        for (i, found) in self.shapes.iter().enumerate() {
-            if same(*found, shape) {
-                return Some(Number(i as u16));
-            }
-        }
-        None
+        let place = self.shapes.iter().position(|found| *found == shape)?;
+        Some(Number(place as u16))
     }
 
     // The number of a formula by its shape; a new one is added, with its opposite, if there is room.

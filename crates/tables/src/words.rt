@@ -88,11 +88,9 @@ pub(crate) fn sweep(through: u64, goal: u64) -> u64
 {
     let mut reached = goal;
     let mut through = through;
-    let mut span: usize = 1;
-    while span < 64 {
+    for span in [1usize, 2, 4, 8, 16, 32] {
         reached |= through & (reached >> span);
         through &= through >> span;
-        span *= 2;
     }
     reached
 }

@@ -7,6 +7,7 @@ use super::super::number::Number;
 use super::super::table::NUMBERS;
 use super::super::words::{both, complement, either, first_in, holds_at, last_in, only, positions};
 use super::Sequent;
+use std::array::from_fn;
 
 // How many words there are.
 const WORDS: usize = 8;
@@ -61,22 +62,18 @@ impl Sequent {
     pub fn minus(&self, other: &Sequent) -> Sequent
         ensures { (k : ℕ) → member result k ≡ (member self.now k && not (member other.now k)) }
     {
-        let mut words = self.words;
-        for i in 0..WORDS {
-            words[i] = both(words[i], complement(other.words[i], WORD));
+        Sequent {
+            words: from_fn(|i| both(self.words[i], complement(other.words[i], WORD))),
         }
-        Sequent { words }
     }
 
     // The numbers of the set that are below `len`.
     pub fn below(&self, len: usize) -> Sequent
         ensures { (k : ℕ) → member result k ≡ (member self.now k && nat_lt k len) }
     {
-        let mut words = self.words;
-        for i in 0..WORDS {
-            words[i] = both(words[i], word_below(i, len));
+        Sequent {
+            words: from_fn(|i| both(self.words[i], word_below(i, len))),
         }
-        Sequent { words }
     }
 
     // Whether all numbers of the set are in the other.
@@ -87,7 +84,7 @@ impl Sequent {
     }
 
     // The smallest number of the set.
-    fn first(&self) -> Option<Number>
+    pub(super) fn first(&self) -> Option<Number>
         ensures { MatchOption result ((k : ℕ) → member self.now k ≡ false) (λ n. (n.0 < 512) × (member self.now n.0 ≡ true) × ((k : ℕ) → k < n.0 → member self.now k ≡ false)) }
     {
         for i in 0..WORDS {

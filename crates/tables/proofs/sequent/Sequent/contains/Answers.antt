@@ -1,6 +1,6 @@
 use Rattle.std.proofs.Common.{sym, ◌∙◌}
 use Rattle.std.proofs.lemmas.Bool.{le-ltb}
-use Rattle.tables.proofs.Members.{member_inside, member_past}
+use Rattle.tables.proofs.InSets.{member_inside, member_past}
 use Rattle.tables.proofs.sequent.Sequent.contains.Goals as goal
 
 pub returns-then-n-lt-NUMBERS : goal.returns-then-n-lt-NUMBERS

@@ -2,7 +2,7 @@ use Rattle.std.proofs.Common.{ℕ, replicate, ap, ◌∙◌}
 use Rattle.std.proofs.lemmas.List.{get_or-replicate}
 use Rattle.tables.specs.Rows.{bit}
 use Rattle.tables.proofs.BitTests.{bit_zero}
-use Rattle.tables.proofs.Members.{members_empty}
+use Rattle.tables.proofs.InSets.{members_empty}
 use Rattle.tables.proofs.sequent.Sequent.empty.Goals as goal
 
 pub returns : goal.returns

@@ -1,6 +1,6 @@
 use Rattle.std.proofs.Common.{⊎_elim, arith}
 use Rattle.std.proofs.lemmas.Bool.{cases_lt}
-use Rattle.tables.proofs.Members.{none_before_more, smallest_found, member_past}
+use Rattle.tables.proofs.InSets.{none_before_more, smallest_found, member_past}
 use Rattle.tables.proofs.sequent.Sequent.first.Goals as goal
 
 pub returns-in-Some : goal.returns-in-Some

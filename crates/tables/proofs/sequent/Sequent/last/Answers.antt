@@ -1,5 +1,5 @@
 use Rattle.std.proofs.Common.{◌-◌, ◌<◌, arith}
-use Rattle.tables.proofs.Members.{none_after_more, largest_found, member_past}
+use Rattle.tables.proofs.InSets.{none_after_more, largest_found, member_past}
 use Rattle.tables.proofs.sequent.Sequent.last.Goals as goal
 
 pub loop-i-init : goal.loop-i-init

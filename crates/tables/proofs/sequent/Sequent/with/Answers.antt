@@ -1,7 +1,7 @@
 use Rattle.std.proofs.Common.{◌/◌, ◌||◌, get_or, refl, ap, ◌∙◌, rules}
 use Rattle.tables.specs.Rows.{bit}
 use Rattle.tables.proofs.BitTests.{bit_only}
-use Rattle.tables.proofs.Members.{members_with}
+use Rattle.tables.proofs.InSets.{members_with}
 use Rattle.tables.proofs.sequent.Sequent.with.Goals as goal
 
 pub returns-then-n-lt-NUMBERS : goal.returns-then-n-lt-NUMBERS

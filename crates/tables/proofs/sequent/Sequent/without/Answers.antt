@@ -1,6 +1,6 @@
 use Rattle.std.proofs.Common.{not, ◌&&◌, ◌||◌, eqb, ltb, ap, ◌∙◌}
 use Rattle.tables.specs.Sets.{member}
-use Rattle.tables.proofs.Members.{members_without}
+use Rattle.tables.proofs.InSets.{members_without}
 use Rattle.tables.proofs.sequent.Sequent.without.Goals as goal
 
 pub returns : goal.returns
