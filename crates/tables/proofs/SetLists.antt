@@ -1,6 +1,6 @@
 -- The list of a set's numbers: its first number, what is in it, and what holds of all of it. Assumes nothing.
 use Rattle.std.proofs.Common.{◌≡◌, ℕ, zero, suc, ◌+◌, ◌<◌, ◌≤◌, Bool, true, false, not, ◌&&◌, ◌||◌, ◌⊎◌, cond, eqb, Decides, MatchBool, MatchOption, Option, Contains, List, [], ◌∷◌, length, get_or, sym, refl, ap, ◌∙◌, subst, ap₂, inl, inr, ⊎_elim, arith}
-use Rattle.std.proofs.lemmas.Bool.{cases_lt, cond-true, cond-false, and_left, and_right, or_cases, or_left, or_right, false_from_ne_true, both_ways, eqb-true, eq-eqb, ne_eqb, cases_Bool, not_from_true}
+use Rattle.std.proofs.lemmas.Bool.{cases_lt, cond-true, cond-false, and_left, and_right, or_cases, or_from, or_left, or_right, false_from_ne_true, both_ways, eqb-true, eq-eqb, ne_eqb, cases_Bool, not_from_true}
 use Rattle.std.proofs.lemmas.List.Elements.{Contains-get_or, Contains-append_cases, Contains-append_left, Contains-append_right}
 use Rattle.std.proofs.lemmas.Iterator.{cases_from_all, cases_from_any}
 use Rattle.std.proofs.lemmas.Iterator.Consumers.{YieldsList-from_first}
@@ -114,6 +114,37 @@ numbers_turn s t x e k =
     (λ i. member_from_numbers s (record { 0 = k }) (subst (λ l. Contains l (record { 0 = k })) (sym e) (Contains-append_right (x ∷ []) (numbers t) _ (numbers_from_member t k i))))
     (or_cases (eqb k x.0) (member t k) o)))))
     (cases_Bool (member s k))
+
+-- a pass over the numbers of s, with those of `rest` to come: they are in s, and P holds of the others
+abbrev pub Passing : (ℕ → Type 0) → Sequent → Sequent → Type 0
+Passing P s rest =
+    ((j : ℕ) → member rest j ≡ true → member s j ≡ true)
+    × ((j : ℕ) → member s j ≡ true → member rest j ≡ false → P j)
+
+module _ (P : ℕ → Type 0) (s rest : Sequent) where
+  pub passing_start : rest ≡ s → Passing P s rest
+  passing_start e = (
+    λ j m. subst (λ r. member r j ≡ true) e m,
+    λ j m n. absurd (both_ways (member s j) (subst (λ r. member r j ≡ false) e n) m),
+  )
+
+  pub passing_end : numbers rest ≡ [] → Passing P s rest → (j : ℕ) → member s j ≡ true → P j
+  passing_end e h j m = h.1 j m (numbers_end rest e j)
+
+  -- the pass goes on past its next number
+  module _ (left : Sequent) (x : Number) (e : numbers rest ≡ x ∷ numbers left) where
+    pub passing_here : Passing P s rest → member s x.0 ≡ true
+    passing_here h = h.0 x.0 (numbers_turn rest left x e x.0 ∙ or_left (eqb x.0 x.0) _ (eq-eqb x.0 x.0 refl))
+
+    pub passing_turn : (Q : ℕ → Type 0) → Passing P s rest → ((j : ℕ) → P j → Q j) → Q x.0 → Passing Q s left
+    passing_turn Q h more here = (
+      λ j m. h.0 j (numbers_turn rest left x e j ∙ or_right (eqb j x.0) _ m),
+      λ j m n.
+          ⊎_elim
+          (λ t. subst Q (sym (eqb-true j x.0 t)) here)
+          (λ f. more j (h.1 j m (numbers_turn rest left x e j ∙ or_from (eqb j x.0) (member left j) f n)))
+          (cases_Bool (eqb j x.0)),
+    )
 
 -- ---- `all` and `any` over the numbers of a set
 by_cases : (r : Bool) (A B Q : Type 0) → (A → Q) → (B → Q → ⊥) → MatchBool r A B → Decides r Q

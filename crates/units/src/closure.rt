@@ -27,14 +27,8 @@ pub(crate) fn is_contradictory(table: &Table, set: &Sequent) -> bool
 fn has_opposites(table: &Table, set: &Sequent) -> bool
     ensures { Decides result ((k : ℕ) × (k < length (listed table.now)) × (numbered (listed table.now) k ∈ formulas_in (listed table.now) set.now) × (opposite (numbered (listed table.now) k) ∈ formulas_in (listed table.now) set.now)) }
 {
-    let mut at: usize = 0;
-    while let Some(k) = set.first_from(at) {
-        if (k.0 as usize) < table.len() && set.contains(k.dual()) {
-            return true;
-        }
-        at = k.0 as usize + 1;
-    }
-    false
+    set.iter()
+        .any(|k| (k.0 as usize) < table.len() && set.contains(k.dual()))
 }
 
 // The closure: rounds until one brings nothing. Each round but the last adds a number, so there are at most as many
@@ -59,10 +53,8 @@ fn round(table: &Table, set: Sequent) -> Sequent
     ensures brought { (k : ℕ) → k < length (listed table.now) → member set k ≡ true → Brought (formulas_in (listed table.now) set) (formulas_in (listed table.now) result) (numbered (listed table.now) k) }
 {
     let mut grown = set;
-    let mut at: usize = 0;
-    while let Some(k) = set.first_from(at) {
+    for k in set.iter() {
         grown = with_brought(table, k, grown);
-        at = k.0 as usize + 1;
     }
     grown
 }

@@ -1,10 +1,19 @@
-use Rattle.std.proofs.Common.{◌≡◌, ◌<◌, length, sym, ◌∙◌, subst, ⊎_elim, arith}
-use Rattle.std.proofs.lemmas.Bool.{true≢false, cases_lt}
+use Rattle.std.proofs.Common.{ℕ, ◌<◌, length, ap, ◌∙◌}
 use Rattle.tables.specs.Listing.{numbered}
-use Rattle.units.specs.Closures.{Brought}
+use Rattle.tables.proofs.SetLists.{passing_start, passing_here, passing_turn, passing_end}
 use Rattle.kits.specs.Steps.{listed, formulas_in}
+use Rattle.units.specs.Closures.{Brought}
 use Rattle.units.proofs.ClosedSets.{inside_formulas, brought_more}
 use Rattle.units.proofs.closure.round.Goals as goal
+
+pub loop-k-init : goal.loop-k-init
+loop-k-init c =
+    (λ j m. m, λ Γ w. w, passing_start _ c.args.set _ (ap (λ m. m.rest) c.into_iter-k-iterator.ensures.into_iter_gives ∙ c.iter-k-items.ensures))
+
+pub with_brought-grown-requires : goal.with_brought-grown-requires
+with_brought-grown-requires c =
+    let inv = c.loop-k.invariant in
+    inv.0 c.in-Some.k.0 (passing_here _ c.args.set c.loop-k.k-iterator.rest c.next.new.self.rest c.in-Some.k c.in-Some.ensures.steps inv.2)
 
 pub loop-k-preserved : goal.loop-k-preserved
 loop-k-preserved c =
@@ -12,20 +21,22 @@ loop-k-preserved c =
     let s = c.args.set in
     let old = c.loop-k.grown in
     let new = c.with_brought-grown.result in
-    let k = c.in-Some.k.0 in
-    let found = c.in-Some.ensures in
-    let more = c.with_brought-grown.ensures in (
-      λ j m. more.kept j (c.loop-k.invariant.0 j m),
-      λ Γ w. more.sound Γ (c.loop-k.invariant.1 Γ w),
-      λ j lt in_table m. ⊎_elim
-          (λ l. brought_more (formulas_in fs s) (formulas_in fs s) (formulas_in fs old) (formulas_in fs new) (numbered fs j) (λ g i. i) (inside_formulas fs old new more.kept) (c.loop-k.invariant.2 j l in_table m))
-          (λ g. ⊎_elim
-          (λ l. absurd (true≢false (sym m ∙ found.3 j g l)))
-          (λ h.
-          let is : k ≡ j = omega arith in
-          let in-k : k < length fs = omega arith in
-          subst (λ n. Brought (formulas_in fs s) (formulas_in fs new) (numbered fs n)) is
-          (brought_more (formulas_in fs s) (formulas_in fs old) (formulas_in fs new) (formulas_in fs new) (numbered fs k) (inside_formulas fs s old c.loop-k.invariant.0) (λ g i. i) (more.brought in-k)))
-          (cases_lt j k))
-          (cases_lt j c.loop-k.at),
+    let k = c.in-Some.k in
+    let inv = c.loop-k.invariant in
+    let more = c.with_brought-grown.ensures in
+    let Done : ℕ → Type 0 = λ j. j < length fs → Brought (formulas_in fs s) (formulas_in fs new) (numbered fs j) in (
+      λ j m. more.kept j (inv.0 j m),
+      λ Γ w. more.sound Γ (inv.1 Γ w),
+      passing_turn _ s c.loop-k.k-iterator.rest c.next.new.self.rest k c.in-Some.ensures.steps Done inv.2
+          (λ j done lt. brought_more (formulas_in fs s) (formulas_in fs s) (formulas_in fs old) (formulas_in fs new) (numbered fs j) (λ g i. i) (inside_formulas fs old new more.kept) (done lt))
+          (λ lt. brought_more (formulas_in fs s) (formulas_in fs old) (formulas_in fs new) (formulas_in fs new) (numbered fs k.0) (inside_formulas fs s old inv.0) (λ g i. i) (more.brought lt)),
     )
+
+pub returns : goal.returns
+returns c =
+    let inv = c.loop-k.invariant in
+    record {
+      kept = inv.0;
+      sound = inv.1;
+      brought = λ k lt m. passing_end _ c.args.set c.loop-k.k-iterator.rest c.in-None.ensures.steps.0 inv.2 k m lt;
+    }
