@@ -45,10 +45,8 @@ fn nexts(table: &Table, conclusion: &Sequent) -> Sequent
     ensures { (k : ℕ) → k < length (listed table.now) → Decides (member result k) (Next (numbered (listed table.now) k) ∈ formulas_in (listed table.now) conclusion.now) }
 {
     let mut found = Sequent::empty();
-    let mut at: usize = 0;
-    while let Some(k) = conclusion.first_from(at) {
+    for k in conclusion.iter() {
         found = with_next(table, k, found);
-        at = k.0 as usize + 1;
     }
     found
 }
@@ -57,11 +55,8 @@ fn nexts(table: &Table, conclusion: &Sequent) -> Sequent
 fn with_next(table: &Table, k: Number, found: Sequent) -> Sequent
     ensures { (g : Formula) → (g ∈ formulas_in (listed table.now) result → (g ∈ formulas_in (listed table.now) found) ⊎ ((k.0 < length (listed table.now)) × (numbered (listed table.now) k.0 ≡ Next g))) × ((g ∈ formulas_in (listed table.now) found) ⊎ ((k.0 < length (listed table.now)) × (numbered (listed table.now) k.0 ≡ Next g)) → g ∈ formulas_in (listed table.now) result) }
 {
-    let Some(shape) = table.shape(k) else {
-        return found;
-    };
-    match shape {
-        Shape::Next(a) => found.with(a),
+    match table.shape(k) {
+        Some(Shape::Next(a)) => found.with(a),
         _ => found,
     }
 }
@@ -72,14 +67,7 @@ fn fits(table: &Table, d: &Sequent, room: Room, premise: &Sequent) -> bool
     ensures { Decides result (FitsRoom (listed table.now) d.now room (formulas_in (listed table.now) premise.now)) }
 {
     let beside = premise.minus(&room.set);
-    let mut at: usize = 0;
-    while let Some(k) = beside.first_from(at) {
-        if !is_added(table, d, room.more, k) {
-            return false;
-        }
-        at = k.0 as usize + 1;
-    }
-    true
+    beside.iter().all(|k| is_added(table, d, room.more, k))
 }
 
 // Whether the formula of a number is one that a rule adds.
@@ -106,11 +94,8 @@ fn is_some_again(table: &Table, d: &Sequent, k: Number, a: Number) -> bool
     requires { (k.0 < length (listed table.now)) × (a.0 < length (listed table.now)) }
     ensures { Decides result ((n : Formula) × (numbered (listed table.now) k.0 ≡ Until n (numbered (listed table.now) a.0)) × Covers n (Inside (listed table.now) d.now)) }
 {
-    let Some(shape) = table.shape(k) else {
-        return false;
-    };
-    match shape {
-        Shape::Until(n, goal) => goal == a && covers(table, d, n),
+    match table.shape(k) {
+        Some(Shape::Until(n, goal)) => goal == a && covers(table, d, n),
         _ => false,
     }
 }
@@ -120,11 +105,8 @@ fn is_until_again(table: &Table, d: &Sequent, k: Number, a: Number, b: Number) -
     requires { (k.0 < length (listed table.now)) × ((a.0 < length (listed table.now)) × (b.0 < length (listed table.now))) }
     ensures { Decides result ((n : Formula) × (numbered (listed table.now) k.0 ≡ Until (And (numbered (listed table.now) a.0) n) (numbered (listed table.now) b.0)) × Covers n (Inside (listed table.now) d.now)) }
 {
-    let Some(shape) = table.shape(k) else {
-        return false;
-    };
-    match shape {
-        Shape::Until(both, goal) => goal == b && is_and_covering(table, d, both, a),
+    match table.shape(k) {
+        Some(Shape::Until(both, goal)) => goal == b && is_and_covering(table, d, both, a),
         _ => false,
     }
 }
@@ -134,11 +116,8 @@ fn is_and_covering(table: &Table, d: &Sequent, k: Number, a: Number) -> bool
     requires { (k.0 < length (listed table.now)) × (a.0 < length (listed table.now)) }
     ensures { Decides result ((n : Formula) × (numbered (listed table.now) k.0 ≡ And (numbered (listed table.now) a.0) n) × Covers n (Inside (listed table.now) d.now)) }
 {
-    let Some(shape) = table.shape(k) else {
-        return false;
-    };
-    match shape {
-        Shape::And(left, n) => left == a && covers(table, d, n),
+    match table.shape(k) {
+        Some(Shape::And(left, n)) => left == a && covers(table, d, n),
         _ => false,
     }
 }
@@ -149,14 +128,7 @@ fn covers(table: &Table, d: &Sequent, n: Number) -> bool
     ensures { Decides result (Covers (numbered (listed table.now) n.0) (Inside (listed table.now) d.now)) }
 {
     let alternatives = alternatives(table, n);
-    let mut at: usize = 0;
-    while let Some(k) = d.first_from(at) {
-        if !is_covered(table, &alternatives, k) {
-            return false;
-        }
-        at = k.0 as usize + 1;
-    }
-    true
+    d.iter().all(|k| is_covered(table, &alternatives, k))
 }
 
 // Whether a formula is an always-formula or its opposite is in a set.
@@ -192,11 +164,8 @@ fn with_sides(table: &Table, k: Number, found: Sequent) -> Sequent
     ensures sides { (a b : Formula) → k.0 < length (listed table.now) → numbered (listed table.now) k.0 ≡ Or a b → (a ∈ formulas_in (listed table.now) result) × (b ∈ formulas_in (listed table.now) result) }
     ensures others { (j : ℕ) → j < length (listed table.now) → member result j ≡ true → (member found j ≡ true) ⊎ ((j < k.0) × Side (numbered (listed table.now) j) (numbered (listed table.now) k.0)) }
 {
-    let Some(shape) = table.shape(k) else {
-        return found;
-    };
-    match shape {
-        Shape::Or(a, b) => found.with(a).with(b),
+    match table.shape(k) {
+        Some(Shape::Or(a, b)) => found.with(a).with(b),
         _ => found,
     }
 }

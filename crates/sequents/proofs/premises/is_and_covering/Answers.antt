@@ -12,11 +12,11 @@ returns-else-eq c =
     let t = c.args.table.now in
     let fs = listed t in
     let k = c.args.k.0 in
-    let x = c.in-And.left in
-    let y = c.in-And.n in
-    let h = c.in-Some.ensures in
-    let is : And (numbered fs x.0) (numbered fs y.0) ≡ numbered fs k = ap (formula_over fs) (sym c.in-And.is) ∙ h.1 in
-    let low = and_parts (ltb x.0 k) (ltb y.0 k) (subst (λ s. parts_below k s ≡ true) c.in-And.is h.2) in
+    let x = c.in-Some-And.left in
+    let y = c.in-Some-And.n in
+    let h = c.in-Some-And.ensures in
+    let is : And (numbered fs x.0) (numbered fs y.0) ≡ numbered fs k = ap (formula_over fs) (sym c.in-Some-And.field-0-is) ∙ h.1 in
+    let low = and_parts (ltb x.0 k) (ltb y.0 k) (subst (λ s. parts_below k s ≡ true) c.in-Some-And.field-0-is h.2) in
     let low_one : x.0 < k = ltb-true x.0 k low.0 in
     let inside : x.0 < length fs = omega (arith, h.0) in (
       λ e. absurd (both_ways _ c.if-eq.false e),

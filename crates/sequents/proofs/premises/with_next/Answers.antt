@@ -9,16 +9,16 @@ use Rattle.kits.proofs.InSequents.{table_few}
 use Rattle.sequents.specs.RoomSets.{with_from, with_kept, with_new}
 use Rattle.sequents.proofs.premises.with_next.Goals as goal
 
-pub returns-in-Next : goal.returns-in-Next
-returns-in-Next c =
+pub returns-in-Some-Next : goal.returns-in-Some-Next
+returns-in-Some-Next c =
     let t = c.args.table.now in
     let fs = listed t in
     let k = c.args.k.0 in
-    let a = c.in-Next.a in
-    let h = c.in-Some.ensures in
+    let a = c.in-Some-Next.a in
+    let h = c.in-Some-Next.ensures in
     let few = table_few t in
-    let is : Next (numbered fs a.0) ≡ numbered fs k = ap (formula_over fs) (sym c.in-Next.is) ∙ h.1 in
-    let low : a.0 < k = ltb-true a.0 k (subst (λ s. parts_below k s ≡ true) c.in-Next.is h.2) in
+    let is : Next (numbered fs a.0) ≡ numbered fs k = ap (formula_over fs) (sym c.in-Some-Next.field-0-is) ∙ h.1 in
+    let low : a.0 < k = ltb-true a.0 k (subst (λ s. parts_below k s ≡ true) c.in-Some-Next.field-0-is h.2) in
     λ g. (
       λ i. ⊎_elim inl (λ e. inr (h.0, sym is ∙ ap Next (sym e))) (with_from fs c.args.found c.with.result a c.with.ensures g i),
       ⊎_elim

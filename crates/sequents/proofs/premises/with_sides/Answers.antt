@@ -10,22 +10,22 @@ use Rattle.kits.proofs.InSequents.{table_few}
 use Rattle.sequents.specs.RoomSets.{with_kept, with_new}
 use Rattle.sequents.proofs.premises.with_sides.Goals as goal
 
-pub returns-in-Or : goal.returns-in-Or
-returns-in-Or c =
+pub returns-in-Some-Or : goal.returns-in-Some-Or
+returns-in-Some-Or c =
     let t = c.args.table.now in
     let fs = listed t in
     let k = c.args.k.0 in
-    let a = c.in-Or.a in
-    let b = c.in-Or.b in
+    let a = c.in-Some-Or.a in
+    let b = c.in-Some-Or.b in
     let s = c.args.found in
     let u = c.with.result in
-    let v = c.with-in-Or.result in
+    let v = c.with-in-Some-Or.result in
     let wu = c.with.ensures in
-    let wv = c.with-in-Or.ensures in
-    let h = c.in-Some.ensures in
+    let wv = c.with-in-Some-Or.ensures in
+    let h = c.in-Some-Or.ensures in
     let few = table_few t in
-    let is : Or (numbered fs a.0) (numbered fs b.0) ≡ numbered fs k = ap (formula_over fs) (sym c.in-Or.is) ∙ h.1 in
-    let low = and_parts (ltb a.0 k) (ltb b.0 k) (subst (λ s. parts_below k s ≡ true) c.in-Or.is h.2) in
+    let is : Or (numbered fs a.0) (numbered fs b.0) ≡ numbered fs k = ap (formula_over fs) (sym c.in-Some-Or.field-0-is) ∙ h.1 in
+    let low = and_parts (ltb a.0 k) (ltb b.0 k) (subst (λ s. parts_below k s ≡ true) c.in-Some-Or.field-0-is h.2) in
     let low-a : a.0 < k = ltb-true a.0 k low.0 in
     let low-b : b.0 < k = ltb-true b.0 k low.1 in
     record {
