@@ -66,13 +66,10 @@ fn with_brought(table: &Table, k: Number, set: Sequent) -> Sequent
     ensures sound { (Γ : List Formula) → Within Γ (formulas_in (listed table.now) set) → Within Γ (formulas_in (listed table.now) result) }
     ensures brought { k.0 < length (listed table.now) → Brought (formulas_in (listed table.now) set) (formulas_in (listed table.now) result) (numbered (listed table.now) k.0) }
 {
-    let Some(shape) = table.shape(k) else {
-        return set;
-    };
-    match shape {
-        Shape::And(a, b) => set.with(a).with(b),
-        Shape::Always(a) => set.with(a),
-        Shape::Or(a, b) => with_side(with_side(set, a, b), b, a),
+    match table.shape(k) {
+        Some(Shape::And(a, b)) => set.with(a).with(b),
+        Some(Shape::Always(a)) => set.with(a),
+        Some(Shape::Or(a, b)) => with_side(with_side(set, a, b), b, a),
         _ => set,
     }
 }

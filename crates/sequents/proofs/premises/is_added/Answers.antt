@@ -2,7 +2,7 @@ use Rattle.std.proofs.Common.{◌≡◌, ◌<◌, true, length, sym, ap, ◌∙�
 use Rattle.std.proofs.lemmas.Bool.{ltb-true, eq-eqb, eqb-true}
 use Rattle.pltl.specs.Formulas.{Next}
 use Rattle.calculus.proofs.Decided.{parts}
-use Rattle.tables.specs.Listing.{numbered, formula_over, parts_below}
+use Rattle.tables.specs.Listing.{numbered}
 use Rattle.sequents.specs.Rooms.{Added, more_inside}
 use Rattle.kits.specs.Steps.{listed}
 use Rattle.kits.proofs.InSequents.{table_lawful}
@@ -16,12 +16,11 @@ returns-in-NextOf c =
     let k = c.args.k.0 in
     let a = c.in-Next.next in
     let m = c.in-NextOf.m in
-    let h = c.in-Some.ensures in
-    let is : Next (numbered fs a.0) ≡ numbered fs k = ap (formula_over fs) (sym c.in-Next.is) ∙ h.1 in
-    let low : a.0 < k = ltb-true a.0 k (subst (λ s. parts_below k s ≡ true) c.in-Next.is h.2) in
+    let h = rw c.in-Next.is at c.in-Some.ensures in
+    let low : a.0 < k = ltb-true a.0 k h.2 in
     let inside : m.0 < length fs = ltb-true m.0 (length fs) (subst (λ x. more_inside fs x ≡ true) c.in-NextOf.is c.requires) in (
-      λ e lt. subst (λ x. Added fs d x (numbered fs k)) (sym c.in-NextOf.is) (sym is ∙ ap (λ n. Next (numbered fs n)) (eqb-true _ _ (sym c.eq.ensures ∙ e))),
+      λ e lt. subst (λ x. Added fs d x (numbered fs k)) (sym c.in-NextOf.is) (sym h.1 ∙ ap (λ n. Next (numbered fs n)) (eqb-true _ _ (sym c.eq.ensures ∙ e))),
       λ added.
           let e : numbered fs k ≡ Next (numbered fs m.0) = subst (λ x. Added fs d x (numbered fs k)) c.in-NextOf.is (added h.0) in
-          c.eq.ensures ∙ eq-eqb _ _ ((table_lawful t).once a.0 m.0 (omega (arith, h.0)) inside (ap (λ g. (parts g).0) (is ∙ e))),
+          c.eq.ensures ∙ eq-eqb _ _ ((table_lawful t).once a.0 m.0 (omega (arith, h.0)) inside (ap (λ g. (parts g).0) (h.1 ∙ e))),
     )

@@ -1,8 +1,6 @@
-use Rattle.std.proofs.Common.{◌≡◌, ◌<◌, true, ltb, length, sym, ap, ◌∙◌, subst, arith}
+use Rattle.std.proofs.Common.{◌<◌, ltb, length, ap, ◌∙◌, arith}
 use Rattle.std.proofs.lemmas.Bool.{both_ways, ltb-true, and_parts, eq-eqb}
-use Rattle.pltl.specs.Formulas.{And}
 use Rattle.calculus.proofs.Decided.{parts}
-use Rattle.tables.specs.Listing.{numbered, formula_over, parts_below}
 use Rattle.kits.specs.Steps.{listed}
 use Rattle.kits.proofs.InSequents.{table_lawful}
 use Rattle.sequents.proofs.premises.is_and_covering.Goals as goal
@@ -14,11 +12,10 @@ returns-else-eq c =
     let k = c.args.k.0 in
     let x = c.in-Some-And.left in
     let y = c.in-Some-And.n in
-    let h = c.in-Some-And.ensures in
-    let is : And (numbered fs x.0) (numbered fs y.0) ≡ numbered fs k = ap (formula_over fs) (sym c.in-Some-And.field-0-is) ∙ h.1 in
-    let low = and_parts (ltb x.0 k) (ltb y.0 k) (subst (λ s. parts_below k s ≡ true) c.in-Some-And.field-0-is h.2) in
+    let h = rw c.in-Some-And.field-0-is at c.in-Some-And.ensures in
+    let low = and_parts (ltb x.0 k) (ltb y.0 k) h.2 in
     let low_one : x.0 < k = ltb-true x.0 k low.0 in
     let inside : x.0 < length fs = omega (arith, h.0) in (
       λ e. absurd (both_ways _ c.if-eq.false e),
-      λ s. c.eq.ensures ∙ eq-eqb _ _ ((table_lawful t).once x.0 c.args.a.0 inside c.requires.1 (ap (λ g. (parts g).0) (is ∙ s.1))),
+      λ s. c.eq.ensures ∙ eq-eqb _ _ ((table_lawful t).once x.0 c.args.a.0 inside c.requires.1 (ap (λ g. (parts g).0) (h.1 ∙ s.1))),
     )

@@ -1,8 +1,7 @@
-use Rattle.std.proofs.Common.{◌≡◌, ◌<◌, true, sym, ap, ◌∙◌, subst, inl, inr, ⊎_elim, arith}
+use Rattle.std.proofs.Common.{◌<◌, sym, ap, ◌∙◌, subst, inl, inr, ⊎_elim, arith}
 use Rattle.std.proofs.lemmas.Bool.{ltb-true}
 use Rattle.pltl.specs.Formulas.{Next}
 use Rattle.calculus.proofs.Decided.{parts}
-use Rattle.tables.specs.Listing.{numbered, formula_over, parts_below}
 use Rattle.sequents.specs.Rooms.{Inside}
 use Rattle.kits.specs.Steps.{listed}
 use Rattle.kits.proofs.InSequents.{table_few}
@@ -15,14 +14,13 @@ returns-in-Some-Next c =
     let fs = listed t in
     let k = c.args.k.0 in
     let a = c.in-Some-Next.a in
-    let h = c.in-Some-Next.ensures in
+    let h = rw c.in-Some-Next.field-0-is at c.in-Some-Next.ensures in
     let few = table_few t in
-    let is : Next (numbered fs a.0) ≡ numbered fs k = ap (formula_over fs) (sym c.in-Some-Next.field-0-is) ∙ h.1 in
-    let low : a.0 < k = ltb-true a.0 k (subst (λ s. parts_below k s ≡ true) c.in-Some-Next.field-0-is h.2) in
+    let low : a.0 < k = ltb-true a.0 k h.2 in
     λ g. (
-      λ i. ⊎_elim inl (λ e. inr (h.0, sym is ∙ ap Next (sym e))) (with_from fs c.args.found c.with.result a c.with.ensures g i),
+      λ i. ⊎_elim inl (λ e. inr (h.0, sym h.1 ∙ ap Next (sym e))) (with_from fs c.args.found c.with.result a c.with.ensures g i),
       ⊎_elim
           (with_kept fs c.args.found c.with.result a c.with.ensures g)
-          (λ n. subst (Inside fs c.with.result) (ap (λ x. (parts x).0) (is ∙ n.1))
+          (λ n. subst (Inside fs c.with.result) (ap (λ x. (parts x).0) (h.1 ∙ n.1))
           (with_new fs c.args.found c.with.result a c.with.ensures (omega (arith, h.0)) (omega (arith, h.0)))),
     )
