@@ -1,6 +1,6 @@
 -- What is in a sequent, word by word. Assumes nothing.
-use Rattle.std.proofs.Common.{◌≡◌, ℕ, ◌+◌, ◌-◌, ◌*◌, ◌/◌, ◌%◌, ◌<◌, ◌≤◌, Bool, true, false, not, ◌&&◌, ◌||◌, eqb, ltb, length, get_or, set, sym, refl, ap, ◌∙◌, subst, ap₂, ⊎_elim, arith}
-use Rattle.std.proofs.lemmas.List.{get_or-set_same, get_or-set_other}
+use Rattle.std.proofs.Common.{◌≡◌, ℕ, ◌+◌, ◌-◌, ◌*◌, ◌/◌, ◌%◌, ◌<◌, ◌≤◌, Bool, true, false, not, ◌&&◌, ◌||◌, eqb, ltb, List, [], ◌∷◌, ◌++◌, length, get_or, set, sym, refl, ap, ◌∙◌, subst, ap₂, ⊎_elim, arith}
+use Rattle.std.proofs.lemmas.List.{length_push, get_or_push, get_or_append_left, get_or-set_same, get_or-set_other}
 use Rattle.std.proofs.lemmas.Bool.{cases_lt, cases_eq, lt-ltb, le-ltb, eq-eqb, ne_eqb, and_left}
 use Rattle.tables.specs.declared.sequent.Sequent.{Sequent}
 use Rattle.tables.specs.Rows.{bit}
@@ -64,6 +64,43 @@ module _ (s : Sequent) where
       member_word i j in_words_lem in-word ∙ here,
       λ k lt. ⊎_elim (λ l. member_of_word i k in_words_lem (omega arith) l ∙ after (k - i * 64) (omega arith)) (none k) (cases_lt k ((i + 1) * 64)),
     )
+
+-- a search from the last word on: the words that are left begin the set's words, and no number is in those that were seen
+abbrev pub Seen : Sequent → List ℕ → Type 0
+Seen s left =
+    (length left ≤ 8)
+    × ((k : ℕ) → k < length left → get_or left k 0 ≡ get_or s.words k 0)
+    × ((k : ℕ) → length left * 64 ≤ k → member s k ≡ false)
+
+pub seen_none : (s : Sequent) (left : List ℕ) → length s.words ≡ 8 → left ≡ s.words → Seen s left
+seen_none s left long e = (omega (arith, ap length e), λ k lt. ap (λ l. get_or l k 0) e, λ k le. member_past s k (omega (arith, ap length e)))
+
+-- one turn, at a word with no word after it
+module _ (s : Sequent) (before left : List ℕ) (w : ℕ) (e : before ≡ left ++ w ∷ []) (seen : Seen s before) where
+  turn_long : length before ≡ length left + 1
+  turn_long = ap length e ∙ length_push left w
+
+  turn_word : w ≡ get_or s.words (length left) 0
+  turn_word =
+      sym (get_or_push left w 0 (length left) refl) ∙ ap (λ l. get_or l (length left) 0) (sym e) ∙ seen.1 (length left) (omega (arith, turn_long))
+
+  turn_inside : length left < 8
+  turn_inside = omega (arith, turn_long, seen.0)
+
+  turn_none : (k : ℕ) → (length left + 1) * 64 ≤ k → member s k ≡ false
+  turn_none k le = seen.2 k (omega (arith, turn_long))
+
+  pub seen_found : (i j : ℕ) → i ≡ length left → j < 64 → bit w j ≡ true → ((m : ℕ) → j < m → bit w m ≡ false) → (i * 64 + j < 512) × (member s (i * 64 + j) ≡ true) × ((k : ℕ) → i * 64 + j < k → member s k ≡ false)
+  seen_found i j is in-word here after =
+      subst (λ n. (n * 64 + j < 512) × (member s (n * 64 + j) ≡ true) × ((k : ℕ) → n * 64 + j < k → member s k ≡ false)) (sym is)
+      (largest_found s (length left) turn_inside turn_none j in-word (ap (λ x. bit x j) (sym turn_word) ∙ here) (λ m lt. ap (λ x. bit x m) (sym turn_word) ∙ after m lt))
+
+  pub seen_more : ((j : ℕ) → bit w j ≡ false) → Seen s left
+  seen_more empty = (
+    omega (arith, turn_inside),
+    λ k lt. sym (get_or_append_left left (w ∷ []) 0 k lt) ∙ ap (λ l. get_or l k 0) (sym e) ∙ seen.1 k (omega (arith, turn_long)),
+    none_after_more s (length left) turn_inside turn_none (λ j. ap (λ x. bit x j) (sym turn_word) ∙ empty j),
+  )
 
 -- a set whose words have, position by position, what is in one set and not in another
 pub members_minus : (r s t : Sequent) → ((i : ℕ) → i < 8 → (j : ℕ) → bit (get_or r.words i 0) j ≡ (bit (get_or s.words i 0) j && (ltb j 64 && not (bit (get_or t.words i 0) j)))) → (k : ℕ) → member r k ≡ (member s k && not (member t k))

@@ -9,9 +9,6 @@ use super::super::words::{both, complement, either, first_in, holds_at, last_in,
 use super::Sequent;
 use std::array::from_fn;
 
-// How many words there are.
-const WORDS: usize = 8;
-
 // How many numbers each word has.
 const WORD: usize = 64;
 
@@ -87,8 +84,8 @@ impl Sequent {
     pub(super) fn first(&self) -> Option<Number>
         ensures { MatchOption result ((k : ℕ) → member self.now k ≡ false) (λ n. (n.0 < 512) × (member self.now n.0 ≡ true) × ((k : ℕ) → k < n.0 → member self.now k ≡ false)) }
     {
-        for i in 0..WORDS {
-            if let Some(at) = first_in(self.words[i]) {
+        for (i, word) in self.words.iter().enumerate() {
+            if let Some(at) = first_in(*word) {
                 return Some(Number((i * WORD + at) as u16));
             }
         }
@@ -99,8 +96,8 @@ impl Sequent {
     fn last(&self) -> Option<Number>
         ensures { MatchOption result ((k : ℕ) → member self.now k ≡ false) (λ n. (n.0 < 512) × (member self.now n.0 ≡ true) × ((k : ℕ) → n.0 < k → member self.now k ≡ false)) }
     {
-        for i in (0..WORDS).rev() {
-            if let Some(at) = last_in(self.words[i]) {
+        for (i, word) in self.words.iter().enumerate().rev() {
+            if let Some(at) = last_in(*word) {
                 return Some(Number((i * WORD + at) as u16));
             }
         }
