@@ -1,6 +1,7 @@
 -- What is in a sequent, word by word. Assumes nothing.
-use Rattle.std.proofs.Common.{◌≡◌, ℕ, ◌+◌, ◌-◌, ◌*◌, ◌/◌, ◌%◌, ◌<◌, ◌≤◌, Bool, true, false, not, ◌&&◌, ◌||◌, eqb, ltb, List, [], ◌∷◌, ◌++◌, length, get_or, set, sym, refl, ap, ◌∙◌, subst, ap₂, ⊎_elim, arith}
+use Rattle.std.proofs.Common.{◌≡◌, ℕ, ◌+◌, ◌-◌, ◌*◌, ◌/◌, ◌%◌, ◌<◌, ◌≤◌, true, false, not, ◌&&◌, ◌||◌, eqb, ltb, List, [], ◌∷◌, ◌++◌, length, get_or, set, sym, refl, ap, ◌∙◌, subst, ap₂, ⊎_elim, arith}
 use Rattle.std.proofs.lemmas.List.{length_push, get_or_push, get_or_append_left, get_or-set_same, get_or-set_other}
+use Rattle.std.proofs.Math.Bool.{or-false}
 use Rattle.std.proofs.lemmas.Bool.{cases_lt, cases_eq, lt-ltb, le-ltb, eq-eqb, ne_eqb, and_left}
 use Rattle.tables.specs.declared.sequent.Sequent.{Sequent}
 use Rattle.tables.specs.Rows.{bit}
@@ -118,10 +119,6 @@ members_below r s len h =
     (λ i j a b. member_word r i j a b ∙ h i a j b ∙ sym (ap (λ x. x && ltb (i * 64 + j) len) (member_word s i j a b)))
     (λ k le. member_past r k le ∙ sym (and_left (member s k) _ (member_past s k le)))
 
-or_false : (b : Bool) → b ≡ (b || false)
-or_false true = refl
-or_false false = refl
-
 -- a set of which one word has one position more
 pub members_with : (r s : Sequent) (n w : ℕ) → n < 512 → length s.words ≡ 8 → r.words ≡ set s.words (n / 64) w → ((j : ℕ) → bit w j ≡ (bit (get_or s.words (n / 64) 0) j || eqb j (n % 64))) → (k : ℕ) → member r k ≡ (member s k || (ltb k 512 && eqb k n))
 members_with r s n w lt long is more =
@@ -139,7 +136,7 @@ members_with r s n w lt long is more =
     (λ p. ne_eqb j (n % 64) p ∙ sym (ap₂ (λ x y. x && y) inside (ne_eqb k n (λ q. p (omega arith)))))
     (cases_eq j (n % 64))))
     (λ o.
-    ap (λ x. bit x j) (get_or-set_other s.words (n / 64) i w 0 o) ∙ sym (member_word s i j a b) ∙ or_false (member s k)
+    ap (λ x. bit x j) (get_or-set_other s.words (n / 64) i w 0 o) ∙ sym (member_word s i j a b) ∙ sym (or-false (member s k))
     ∙ ap (λ y. member s k || y) (sym (ap₂ (λ x y. x && y) inside (ne_eqb k n (λ q. o (omega arith))))))
     (cases_eq i (n / 64)))
     (λ k le. member_past r k le ∙ sym (ap₂ (λ x y. x || y) (member_past s k le) (and_left (ltb k 512) (eqb k n) (le-ltb k 512 le))))

@@ -1,8 +1,9 @@
 -- Recorded states: how many there are, each of them, and one more. Assumes nothing.
-use Rattle.std.proofs.Common.{◌≡◌, ℕ, zero, suc, ◌+◌, ◌^◌, ◌<◌, ◌≤◌, Bool, true, false, ◌&&◌, ◌||◌, ltb, List, [], ◌∷◌, ◌++◌, length, get_or, replicate, sym, refl, ap, ◌∙◌, subst, ap₂, ⊎_elim, add-one, arith, pow_mono}
+use Rattle.std.proofs.Common.{◌≡◌, ℕ, zero, suc, ◌+◌, ◌^◌, ◌<◌, ◌≤◌, false, ◌&&◌, ◌||◌, ltb, List, [], ◌∷◌, ◌++◌, length, get_or, replicate, sym, refl, ap, ◌∙◌, subst, ap₂, ⊎_elim, add-one, arith, pow_mono}
 use lib.Bits.{bit_or}
 use Rattle.std.proofs.lemmas.Nat.{or_lt, pow_below}
 use Rattle.std.proofs.lemmas.List.{length_push, length-replicate, get_or_append_left, get_or_push, get_or_past, get_or-replicate}
+use Rattle.std.proofs.Math.Bool.{or-false}
 use Rattle.std.proofs.lemmas.Bool.{cases_lt, cases_Bool, cond-true, cond-false, cond_both, or_right, eq-eqb, ne_eqb}
 use Rattle.pltl.specs.Runs.{no_letters}
 use Rattle.pltl.specs.Truth.{State}
@@ -25,10 +26,6 @@ recorded_at ws (suc n) i lt =
     (λ g. let e : n ≡ i = omega arith in get_or_push (recorded ws n) _ no_letters i (long ∙ e) ∙ ap (λ k p. bit (get_or ws p 0) k) e)
     (cases_lt i n)
 
-or_false : (b : Bool) → (b || false) ≡ b
-or_false true = refl
-or_false false = refl
-
 -- the words with one position more
 module _ (ws vs : List ℕ) (letters at : ℕ) (clean : (p : ℕ) → get_or ws p 0 < 2 ^ at) (is : (p : ℕ) → get_or vs p 0 ≡ marked ws letters at p) where
   pub marked_clean : (p : ℕ) → get_or vs p 0 < 2 ^ (at + 1)
@@ -44,7 +41,7 @@ module _ (ws vs : List ℕ) (letters at : ℕ) (clean : (p : ℕ) → get_or ws 
       let w = get_or ws p 0 in
       ap (λ x. bit x i) (is p)
       ∙ cond_both (ltb p 26 && bit letters p) (bit_or w (2 ^ at)) w (λ x. bit x i ≡ bit w i)
-      (λ _. bit_of_or w (2 ^ at) i ∙ ap (λ b. bit w i || b) (bit_only at i ∙ ne_eqb i at (omega arith)) ∙ or_false (bit w i))
+      (λ _. bit_of_or w (2 ^ at) i ∙ ap (λ b. bit w i || b) (bit_only at i ∙ ne_eqb i at (omega arith)) ∙ or-false (bit w i))
       (λ _. refl)
 
   marked_here : (p : ℕ) → bit (get_or vs p 0) at ≡ state_of letters p

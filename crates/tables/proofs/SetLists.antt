@@ -1,9 +1,11 @@
 -- The list of a set's numbers: its first number, what is in it, and what holds of all of it. Assumes nothing.
 use Rattle.std.proofs.Common.{◌≡◌, ℕ, zero, suc, ◌+◌, ◌<◌, ◌≤◌, Bool, true, false, not, ◌&&◌, ◌||◌, ◌⊎◌, cond, eqb, Decides, MatchBool, MatchOption, Option, Contains, List, [], ◌∷◌, length, get_or, sym, refl, ap, ◌∙◌, subst, ap₂, inl, inr, ⊎_elim, arith}
+use Rattle.std.proofs.Math.Bool.{and-true}
 use Rattle.std.proofs.lemmas.Bool.{cases_lt, cond-true, cond-false, and_left, and_right, or_cases, or_from, or_left, or_right, false_from_ne_true, both_ways, eqb-true, eq-eqb, ne_eqb, cases_Bool, not_from_true}
-use Rattle.std.proofs.lemmas.List.Elements.{Contains-get_or, Contains-append_cases, Contains-append_left, Contains-append_right}
+use Rattle.std.proofs.lemmas.List.Elements.{Contains-get_or, Contains-append_cases, Contains-append_right}
 use Rattle.std.proofs.lemmas.Iterator.{cases_from_all, cases_from_any}
 use Rattle.std.proofs.lemmas.Iterator.Consumers.{YieldsList-from_first}
+use Rattle.std.specs.Cmp.{both_ways as each_from_other}
 use Rattle.std.specs.Fn.{Called}
 use Rattle.std.specs.Iterator.{YieldsFirst, YieldsThen}
 use Rattle.std.specs.List.{AllWithin, HoldsAt, FoldsTo}
@@ -13,10 +15,6 @@ use Rattle.tables.specs.declared.sequent.Sequent.{Sequent}
 use Rattle.tables.specs.declared.sequent.iter.Members.{Members}
 use Rattle.tables.specs.Sets.{member, numbers_from, numbers, numbers_left}
 use Rattle.tables.proofs.InSets.{member_past}
-
-and_true : (b : Bool) → (b && true) ≡ b
-and_true true = refl
-and_true false = refl
 
 -- sets that agree from a on have the same numbers there
 from_agree : (S T : ℕ → Bool) (n a : ℕ) → ((k : ℕ) → a ≤ k → S k ≡ T k) → numbers_from S a n ≡ numbers_from T a n
@@ -44,7 +42,7 @@ module _ (S T : ℕ → Bool) (f : ℕ) (here : S f ≡ true) (before : (k : ℕ
       let e : a ≡ f = omega arith in
       cond-true (S a) _ _ (ap S e ∙ here)
       ∙ ap₂ (λ k (l : List Number). record { 0 = k } ∷ l) e
-      (from_agree S T n (a + 1) (λ k more. sym (is k ∙ ap (λ b. S k && not b) (ne_eqb k f (omega arith)) ∙ and_true (S k)))
+      (from_agree S T n (a + 1) (λ k more. sym (is k ∙ ap (λ b. S k && not b) (ne_eqb k f (omega arith)) ∙ and-true (S k)))
       ∙ sym (cond-false (T a) _ _ (is a ∙ and_right (S a) _ (not_from_true (eqb a f) (eq-eqb a f e))))))
       (cases_lt a f)
 
@@ -102,18 +100,18 @@ numbers_end s e k =
 
 pub numbers_turn : (s t : Sequent) (x : Number) → numbers s ≡ x ∷ numbers t → (k : ℕ) → member s k ≡ (eqb k x.0 || member t k)
 numbers_turn s t x e k =
+    let y : Number = record { 0 = k } in
+    each_from_other (member s k) (eqb k x.0 || member t k)
+    (λ h.
     ⊎_elim
-    (λ h. h ∙ sym (⊎_elim
-    (λ o. or_left (eqb k x.0) _ (eq-eqb k x.0 (ap (λ m. m.0) (sym (contains_one x _ o)))))
-    (λ i. or_right (eqb k x.0) _ (member_from_numbers t _ i))
-    (Contains-append_cases (x ∷ []) (numbers t) _ (subst (λ l. Contains l (record { 0 = k })) e (numbers_from_member s k h)))))
-    (λ h. h ∙ sym (false_from_ne_true (eqb k x.0 || member t k) (λ o.
-    both_ways (member s k) h
-    (⊎_elim
-    (λ q. subst (λ m. member s m ≡ true) (sym (eqb-true k x.0 q)) (member_from_numbers s x (subst (λ l. Contains l x) (sym e) (Contains-append_left (x ∷ []) (numbers t) x (0, omega arith, refl)))))
-    (λ i. member_from_numbers s (record { 0 = k }) (subst (λ l. Contains l (record { 0 = k })) (sym e) (Contains-append_right (x ∷ []) (numbers t) _ (numbers_from_member t k i))))
-    (or_cases (eqb k x.0) (member t k) o)))))
-    (cases_Bool (member s k))
+    (λ o. or_left (eqb k x.0) _ (eq-eqb k x.0 (ap (λ m. m.0) (sym (contains_one x y o)))))
+    (λ i. or_right (eqb k x.0) _ (member_from_numbers t y i))
+    (Contains-append_cases (x ∷ []) (numbers t) y (subst (λ l. Contains l y) e (numbers_from_member s k h))))
+    (λ o.
+    ⊎_elim
+    (λ q. subst (λ m. member s m ≡ true) (sym (eqb-true k x.0 q)) (member_from_numbers s x (subst (λ l. Contains l x) (sym e) (0, omega arith, refl))))
+    (λ i. member_from_numbers s y (subst (λ l. Contains l y) (sym e) (Contains-append_right (x ∷ []) (numbers t) y (numbers_from_member t k i))))
+    (or_cases (eqb k x.0) (member t k) o))
 
 -- a pass over the numbers of s, with those of `rest` to come: they are in s, and P holds of the others
 abbrev pub Passing : (ℕ → Type 0) → Sequent → Sequent → Type 0
