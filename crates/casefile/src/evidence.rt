@@ -51,16 +51,8 @@ pub struct StepLine {
     end: usize,
 }
 
-// A line as it was read: what stands for its call.
-#[derive(Clone, Copy)]
-pub enum Evidence<'a> {
-    Form(&'a [u8]),
-    Step(StepLine),
-    State(u32),
-    Loop(usize),
-    Drop,
-    Verdict,
-}
+// A call that a line stands for, with its step as the line has it.
+pub(crate) type Evidence<'a> = Call<'a, StepLine>;
 
 // Reads the value of a step line: name;principal;conclusion;premises. A name that the kit does not have is rule 0.
 fn step_line<K: Kit + Drop>(
@@ -94,17 +86,17 @@ fn read_line<'a, K: Kit + Drop>(
     numbers: &mut Numbers,
 ) -> Result<Evidence<'a>, LineFault> {
     match line? {
-        Line::Form(text) => Ok(Evidence::Form(text)),
-        Line::Step(value) => Ok(Evidence::Step(step_line(draft, value, numbers)?)),
-        Line::State(value) => Ok(Evidence::State(letters(value)?)),
-        Line::Loop(value) => Ok(Evidence::Loop(number(value)?)),
+        Line::Form(text) => Ok(Call::Form(text)),
+        Line::Step(value) => Ok(Call::Step(step_line(draft, value, numbers)?)),
+        Line::State(value) => Ok(Call::State(letters(value)?)),
+        Line::Loop(value) => Ok(Call::Loop(number(value)?)),
         Line::Drop(value) => {
             nothing(value)?;
-            Ok(Evidence::Drop)
+            Ok(Call::Drop)
         }
         Line::Verdict(value) => {
             nothing(value)?;
-            Ok(Evidence::Verdict)
+            Ok(Call::Verdict)
         }
         _ => Err(LineFault::NotDue),
     }
@@ -136,19 +128,19 @@ fn part(numbers: &[u16], start: usize, end: usize) -> &[u16] {
 }
 
 // The call that a line stands for.
-fn call_of<'t, 'n>(evidence: Evidence<'t>, numbers: &'n [u16]) -> Call<'t, 'n> {
+fn call_of<'t, 'n>(evidence: Evidence<'t>, numbers: &'n [u16]) -> Call<'t, StepCall<'n>> {
     match evidence {
-        Evidence::Form(text) => Call::Form(text),
-        Evidence::Step(step) => Call::Step(StepCall {
+        Call::Form(text) => Call::Form(text),
+        Call::Step(step) => Call::Step(StepCall {
             rule: step.rule,
             principal: step.principal,
             conclusion: part(numbers, step.conclusion, step.premises),
             premises: part(numbers, step.premises, step.end),
         }),
-        Evidence::State(letters) => Call::State(letters),
-        Evidence::Loop(back) => Call::Loop(back),
-        Evidence::Drop => Call::Drop,
-        Evidence::Verdict => Call::Verdict,
+        Call::State(letters) => Call::State(letters),
+        Call::Loop(back) => Call::Loop(back),
+        Call::Drop => Call::Drop,
+        Call::Verdict => Call::Verdict,
     }
 }
 

@@ -9,7 +9,7 @@ use super::evidence::{Evidence, Numbers, enter_calls, read_lines};
 use super::faults::{LineFault, SheetFault};
 use super::lines::{Line, Lines};
 use super::values::{Choice, nothing};
-use cases::{ClauseKind, Draft, Entry, record};
+use cases::{Call, ClauseKind, Draft, Entry, record};
 use kits::{Kit, Pair};
 use sequents::Sequents;
 use std::alloc::{AllocError, Global};
@@ -195,12 +195,12 @@ fn answer_line(
     let evidence = line?;
     let answer = answers.next().map_or(Ok(0), |entry| entry.answer)?;
     Ok(match evidence {
-        Evidence::Form(_) => Answer::Form(answer),
-        Evidence::Step(_) => Answer::Step(answer),
-        Evidence::State(_) => Answer::State(answer),
-        Evidence::Loop(_) => Answer::Loop(answer),
-        Evidence::Drop => Answer::Drop(answer),
-        Evidence::Verdict => Answer::Verdict(answer),
+        Call::Form(_) => Answer::Form(answer),
+        Call::Step(_) => Answer::Step(answer),
+        Call::State(_) => Answer::State(answer),
+        Call::Loop(_) => Answer::Loop(answer),
+        Call::Drop => Answer::Drop(answer),
+        Call::Verdict => Answer::Verdict(answer),
     })
 }
 

@@ -33,7 +33,7 @@ kit_model knows allows k = record { knows = knows k; allows = allows k }
 abbrev pub step_call_model : StepCall → StepCallModel
 step_call_model s = record { rule = s.rule; principal = s.principal; conclusion = s.conclusion.now; premises = s.premises.now }
 
-abbrev pub call_model : Call → CallModel
+abbrev pub call_model : Call StepCall → CallModel
 call_model (Form w) = form w.now
 call_model (Step s) = step (step_call_model s)
 call_model (State w) = state w

@@ -11,12 +11,12 @@ pub struct StepCall<'n> {
     pub premises: &'n [u16],
 }
 
-// A call on a case, with the text or the numbers that are handed in.
+// A call on a case, with the text or the numbers that are handed in; its step is handed in as an `S`.
 #[derive(Clone, Copy)]
-pub enum Call<'t, 'n> {
+pub enum Call<'t, S> {
     // Numbers the formula of a text.
     Form(&'t [u8]),
-    Step(StepCall<'n>),
+    Step(S),
     // A state with the letters whose bits 0 to 25 are set.
     State(u32),
     // The back position that closes the run.
@@ -28,6 +28,6 @@ pub enum Call<'t, 'n> {
 // An entry of a record: a call, and what it is answered.
 #[derive(Clone, Copy)]
 pub struct Entry<'t, 'n> {
-    pub call: Call<'t, 'n>,
+    pub call: Call<'t, StepCall<'n>>,
     pub answer: Result<usize, CallFault>,
 }

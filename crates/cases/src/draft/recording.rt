@@ -6,14 +6,14 @@ ghost use Rattle.cases.specs.Promise.{Promise};
 ghost use Rattle.cases.specs.Steps.{without_steps};
 ghost use Rattle.cases.specs.Views.{draft_model, stepped_model, kit_model, call_model, entry_call, entry_answer, answered};
 
-use super::super::call::{Call, Entry};
+use super::super::call::{Call, Entry, StepCall};
 use super::super::faults::CallFault;
 use super::{Case, Draft};
 use kits::Kit;
 
 impl<K: Kit + Drop> Case<K> {
     // Takes a call: the number that it answers, or why it is refused.
-    fn take(&mut self, call: Call<'_, '_>) -> Result<usize, CallFault>
+    fn take(&mut self, call: Call<'_, StepCall<'_>>) -> Result<usize, CallFault>
         ensures value { result ≡ answer_to (kit_model K.Kit.knows K.Kit.allows self.old.kit) (stepped_model self.old) (call_model call.entry) }
         ensures after { stepped_model self.new ≡ after_call (kit_model K.Kit.knows K.Kit.allows self.old.kit) (stepped_model self.old) (call_model call.entry) }
         ensures kit { self.new.kit ≡ self.old.kit }
