@@ -1,4 +1,5 @@
-// Writing into a buffer.
+// Writing into a buffer, which is the caller's, in C or not: each function has the offset that it writes from, and answers
+// the one behind. A struct that holds buffer and offset would have to say at each call that it holds the same buffer.
 ghost use Rattle.std.specs.Prelude.{◌≡◌, ◌+◌, ◌<◌, ◌≤◌, [], ◌∷◌, length, decimal};
 ghost use Rattle.casefile.specs.Buffers.{overwritten};
 ghost use Rattle.casefile.specs.Fields.{number_field, refusal_lines};

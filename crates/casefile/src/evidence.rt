@@ -13,7 +13,7 @@ use std::alloc::{AllocError, Global};
 // The most numbers that the step lines of a file have: fewer than it has bytes.
 const MOST_NUMBERS: usize = 32_000;
 
-// The numbers of all step lines, one behind the other.
+// The numbers of all step lines, one behind the other: their memory is asked for once, and not at each line.
 #[derive(Drop)]
 pub struct Numbers {
     numbers: Vec<u16>,
@@ -120,11 +120,7 @@ pub(crate) fn read_lines<'a, K: Kit + Drop>(
 
 // The part of the numbers between two places; nothing where there is no such part.
 fn part(numbers: &[u16], start: usize, end: usize) -> &[u16] {
-    if start <= end && end <= numbers.len() {
-        &numbers[start..end]
-    } else {
-        &[]
-    }
+    numbers.get(start..end).unwrap_or(&[])
 }
 
 // The call that a line stands for.

@@ -44,6 +44,7 @@ impl From<LineFault> for Refusal {
     }
 }
 
+// By hand, and not derived, since `refusal` names the fault that `?` makes.
 impl From<TextFault> for LineFault {
     ghost from_gives = { λ f r. r ≡ Text f };
 
@@ -72,7 +73,7 @@ impl From<CaseFault> for LineFault {
     }
 }
 
-// What is answered in place of the sheet's length.
+// What a caller in C is answered in place of the sheet's length.
 pub const FILE_REFUSED: i64 = -22;
 
 pub const BUFFER_TOO_SHORT: i64 = -21;

@@ -276,6 +276,7 @@ fn file_sheet(file: &[u8], out: &mut [u8], heap: Global) -> Result<usize, AllocE
     let Some(line) = lines.next_line() else {
         return Ok(0);
     };
+    // An arm for each kit: a kit's letter is a constant of its type, so no `dyn Kit` stands for all.
     match first_line(line) {
         Ok(Choice::Sequents) => kit_sheet(Sequents, &mut lines, out, heap),
         Ok(Choice::Units) => kit_sheet(Units, &mut lines, out, heap),

@@ -25,7 +25,7 @@ pub enum Call<'t, S> {
     Verdict,
 }
 
-// An entry of a record: a call, and what it is answered.
+// An entry of a record: a call, and what it is answered: a number, as a sheet prints it.
 #[derive(Clone, Copy)]
 pub struct Entry<'t, 'n> {
     pub call: Call<'t, StepCall<'n>>,

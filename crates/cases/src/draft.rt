@@ -42,7 +42,8 @@ pub struct Draft<K> {
     ghost inside: { all_below (length (formulas table.shapes.items)) (plain roots.numbers.items) ≡ true },
 }
 
-// A case: a draft that is sealed. It takes evidence for or against the property.
+// A case: a draft that is sealed. It takes evidence for or against the property. What both hold stands in both: a struct
+// of it would repeat the clauses of each part's methods.
 #[derive(Drop)]
 pub struct Case<K> {
     kit: K,

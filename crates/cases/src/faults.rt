@@ -77,6 +77,7 @@ impl From<CallFault> for Refusal {
     }
 }
 
+// By hand, and not derived, since clauses name the fault that `?` makes.
 impl From<TextFault> for CallFault {
     ghost from_gives = { λ f r. r ≡ Text f };
 

@@ -10,7 +10,8 @@ use tables::{Number, Rows, Sequent};
 // A root formula for each clause that may be taken, and one for a property that is wanting.
 pub const MOST_ROOTS: usize = 41;
 
-// Root formulas: those that a run must satisfy. Each number stands once.
+// Root formulas: those that a run must satisfy. Each number stands once, in the order of the clauses; a set of std's would
+// ask for memory at each number.
 #[derive(Drop)]
 pub struct Roots {
     numbers: Vec<Number>,

@@ -145,6 +145,7 @@ fn is_covered(table: &Table, alternatives: &Sequent, k: Number) -> bool
 }
 
 // A formula and, if it is a disjunction, the alternatives of both sides. Sides have smaller numbers, so one pass down does.
+// The set grows meanwhile, so no iterator of it goes along.
 fn alternatives(table: &Table, n: Number) -> Sequent
     requires { n.0 < length (listed table.now) }
     ensures { (k : ℕ) → k < length (listed table.now) → Decides (member result k) (Alternative (numbered (listed table.now) k) (numbered (listed table.now) n.0)) }

@@ -9,7 +9,8 @@ use pltl::{Dual, Shape};
 use tables::{Number, Sequent};
 
 impl Conclusion {
-    // What the premises of a rule may have. Next has no principal formula.
+    // What the premises of a rule may have. Next has no principal formula. A match over all rules, and no table of functions:
+    // each has a contract of its own.
     pub(crate) fn plan(self, rule: SequentRule) -> Option<Plan>
         requires { rule ≢ SequentRule.Next }
         ensures { PlanOf (rule_number rule) self result }

@@ -8,7 +8,8 @@ use super::words::{holds_at, only};
 // How many positions are held at most: one for each bit of a word.
 pub const MOST_POSITIONS: usize = 64;
 
-// The states of a run that is recorded. Bit i of a letter's word says whether the letter holds at position i.
+// The states of a run that is recorded. Bit i of a letter's word says whether the letter holds at position i: rows are
+// computed from such words, and not state by state.
 #[derive(Clone, Copy)]
 pub struct States {
     letters: [u64; 26],

@@ -54,7 +54,8 @@ impl Table {
         self.shapes.get(n.0 as usize).copied()
     }
 
-    // The number of a formula that is in the table, by its shape.
+    // The number of a formula that is in the table, by its shape. The list is searched along: a map would ask for memory at
+    // each new formula.
     pub(crate) fn find(&self, shape: Shape<Number>) -> Option<Number>
         requires { parts_below (length (formulas self.now.shapes.items)) shape ≡ true }
         ensures { Finds (formulas self.now.shapes.items) (formula_over (formulas self.now.shapes.items) shape) result }

@@ -59,7 +59,7 @@ pub(crate) fn first_in(row: u64) -> Option<usize>
     Some(row.trailing_zeros() as usize)
 }
 
-// The largest position in a set.
+// The largest position in a set: all that it has in common with the smallest is the test of 0.
 pub(crate) fn last_in(row: u64) -> Option<usize>
     ensures { MatchOption result ((i : ℕ) → bit row i ≡ false) (λ n. (n < 64) × (bit row n ≡ true) × ((i : ℕ) → n < i → bit row i ≡ false)) }
 {

@@ -25,7 +25,8 @@ impl From<Layer> for usize {
     }
 }
 
-// What is printed of a fault, of this layer or another; places count from 0.
+// What is printed of a fault, of this layer or another; places count from 0. The number is the one that a sheet prints:
+// the kinds of refusals are the variants of the faults.
 #[derive(Clone, Copy)]
 pub struct Refusal {
     pub number: usize,

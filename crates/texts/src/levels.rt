@@ -83,6 +83,8 @@ impl<'text, 'syntax> Reader<'text, 'syntax> {
         }
     }
 
+    // A function for each level: a closure that makes the node has no proof in a cycle of calls.
+
     // implication: disjunction, or disjunction `->` implication
     #[cycle(levels)]
     fn implication(&mut self) -> Result<usize, TextFault>

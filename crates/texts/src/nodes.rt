@@ -25,7 +25,8 @@ pub enum Node {
     Implies(usize, usize),
 }
 
-// The nodes of the text that was read last. Its memory is asked for when it is made.
+// The nodes of the text that was read last. Its memory is asked for when it is made, and never again: so a part is named
+// by its index, and not held in a box.
 #[derive(Drop)]
 pub struct Syntax {
     nodes: Vec<Node>,

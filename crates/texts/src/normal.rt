@@ -7,7 +7,7 @@ ghost use Rattle.texts.specs.Normals.{normal_at, formula_at, parts_below};
 use super::nodes::{Node, Syntax};
 use pltl::{Dual, Shape};
 
-// A node of what was read, or its negation.
+// A node of what was read, or its negation. A sign stands beside the node, and not two variants, since both are read alike.
 #[derive(Clone, Copy)]
 pub struct Part {
     pub node: usize,

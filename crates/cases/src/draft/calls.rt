@@ -46,7 +46,8 @@ impl<K: Kit + Drop> Draft<K> {
         self.kit.find(name)
     }
 
-    // Takes a clause of a kind, 1 to 4: the number of its root formula, or why it is refused.
+    // Takes a clause of a kind, 1 to 4: the number of its root formula, or why it is refused. A caller may have a number
+    // that is no kind's; `add` takes a kind.
     pub fn clause(&mut self, kind: usize, text: &[u8]) -> Result<Number, CallFault>
         ensures value { call_number result ≡ clause (draft_model self.old) kind text.now }
         ensures after { draft_model self.new ≡ after_clause (draft_model self.old) kind text.now }

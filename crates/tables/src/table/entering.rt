@@ -67,7 +67,8 @@ impl Table {
         self.add(shape)
     }
 
-    // Numbers the parts of a part, and answers its shape over their numbers.
+    // Numbers the parts of a part, and answers its shape over their numbers. An arm for each shape: a closure that numbers a
+    // part has no proof in a cycle of calls.
     #[cycle(number_number_both_number_parts)]
     fn number_parts(&mut self, syntax: &Syntax, part: Part) -> Option<Shape<Number>>
         ensures value { Reaches (enter_parts (formulas self.old.shapes.items) (formula_at syntax.now.nodes.items part)) (formulas self.new.shapes.items) (Shapes (formulas self.new.shapes.items) (formula_at syntax.now.nodes.items part)) result }
