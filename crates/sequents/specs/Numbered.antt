@@ -1,4 +1,4 @@
--- The numbers of the rules of kit `s`. A reader has to believe this file. Assumes nothing.
+-- The numbers of the rules of kit `s`, by the enum of the code. Assumes nothing.
 use Rattle.std.specs.Prelude.{ℕ, cond, Some, None, Ok, Err, Option, Result, ◌==◌}
 use Rattle.kits.specs.declared.faults.KitFault.{KitFault}
 use Rattle.kits.specs.declared.faults.KitFault.TheVariants.{Unknown}
