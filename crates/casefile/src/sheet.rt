@@ -168,7 +168,7 @@ fn draft_lines<K: Kit + Drop>(
     requires ended { LinesEnd lines.old.file.now }
     requires room { start + 64 * newlines (drop lines.old.at lines.old.file.now) ≤ length out.old }
     ensures file { lines.new.file.now ≡ lines.old.file.now }
-    ensures room { MatchControlFlow result (λ at. at + 64 * (1 + newlines (drop lines.new.at lines.old.file.now)) ≤ start + 64 * newlines (drop lines.old.at lines.old.file.now)) (λ at. at ≤ start + 64 * newlines (drop lines.old.at lines.old.file.now)) }
+    ensures room { MatchControlFlow result (λ at. at + 64 * (1 + newlines (drop lines.new.at lines.old.file.now)) ≤ start + 64 * newlines (drop lines.old.at lines.old.file.now)) (λ at. at + 64 * newlines (drop lines.new.at lines.old.file.now) ≤ start + 64 * newlines (drop lines.old.at lines.old.file.now)) }
     ensures ahead { MatchControlFlow result (λ at. start ≤ at) (λ at. start ≤ at) }
     ensures kept { MatchControlFlow result (λ at. Kept out.old out.new at) (λ at. Kept out.old out.new at) }
 {
