@@ -22,6 +22,3 @@ loop-i-preserved c =
     let inv = c.loop-i.invariant in
     let turn = c.in-Some.ensures.steps in
     (turn.0 ∙ inv.0, seen_more c.args.self.now _ c.next.new.self.iter.iter.rest.now c.in-Some.word.now turn.1.0 inv.1 c.in_default.ensures)
-
-pub returns : goal.returns
-returns c k = c.loop-i.invariant.1.2 k (omega (arith, c.in-None.ensures.steps.1.0))

@@ -1,6 +1,6 @@
-use Rattle.std.proofs.Common.{◌≡◌, ◌%◌, ◌≤◌, length, take, Err, vec_items, vec_len, sym, ap, ◌∙◌, subst, arith, rules}
+use Rattle.std.proofs.Common.{◌≡◌, ◌%◌, ◌≤◌, length, take, Err, vec_items, sym, ap, ◌∙◌, subst, arith}
 use Rattle.std.proofs.lemmas.List.{take_at}
-use Rattle.tables.specs.Listing.{formulas, PartsFirst, PartsSmaller, Lawful}
+use Rattle.tables.specs.Listing.{formulas, PartsSmaller, Lawful}
 use Rattle.tables.specs.Steps.{Grown}
 use Rattle.std.proofs.lemmas.Result.{err_from_is_err_and}
 use Rattle.tables.specs.Answers.{answer_read, after_read, by_number}
@@ -17,13 +17,6 @@ restored c =
     let v = c.args.self.now.shapes in
     let g = c.in_default.ensures.grown in
     c.truncate.ensures.items ∙ ap (take c.len-before.result) g.is ∙ take_at (vec_items v) g.more c.len-before.result (sym (c.len-before.ensures ∙ v.ok.0))
-
-pub invariant_of-self : goal.invariant_of-self
-invariant_of-self c =
-    let t = c.args.self.now in
-    let items = restored c in
-    let long : vec_len c.truncate.new.self ≡ vec_len t.shapes = c.truncate.new.self.ok.0 ∙ ap length items ∙ sym t.shapes.ok.0 in
-    record { room = search rules; few = omega (arith, t.few); order = subst PartsFirst (sym items) t.order; begun = omega (arith, t.begun); even = subst (λ n. n % 2 ≡ 0) (sym long) t.even; lawful = subst (λ l. ∥ Lawful (formulas l) ∥₁) (sym items) t.lawful }
 
 pub returns-in_default : goal.returns-in_default
 returns-in_default c =
