@@ -34,9 +34,3 @@ pub loop-grown-smaller : goal.loop-grown-smaller
 loop-grown-smaller c =
     missing_falls c.loop-grown.closed c.round-grown.result c.round-grown.ensures.kept
     (λ all. false≢true (sym c.if-is_within.false ∙ c.is_within.ensures.1 all))
-
-pub loop-grown-preserved : goal.loop-grown-preserved
-loop-grown-preserved c = (
-  λ j m. c.round-grown.ensures.kept j (c.loop-grown.invariant.0 j m),
-  c.round-grown.ensures.sound (formulas_in (listed c.args.table.now) c.args.set) c.loop-grown.invariant.1,
-)

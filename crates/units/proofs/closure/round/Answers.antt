@@ -1,14 +1,10 @@
-use Rattle.std.proofs.Common.{ℕ, ◌<◌, length, ap, ◌∙◌}
+use Rattle.std.proofs.Common.{ℕ, ◌<◌, length}
 use Rattle.tables.specs.Listing.{numbered}
-use Rattle.tables.proofs.SetLists.{passing_start, passing_here, passing_turn, passing_end}
+use Rattle.tables.proofs.SetLists.{passing_here, passing_turn, passing_end}
 use Rattle.kits.specs.Steps.{listed, formulas_in}
 use Rattle.units.specs.Closures.{Brought}
 use Rattle.units.proofs.ClosedSets.{inside_formulas, brought_more}
 use Rattle.units.proofs.closure.round.Goals as goal
-
-pub loop-k-init : goal.loop-k-init
-loop-k-init c =
-    (λ j m. m, λ Γ w. w, passing_start _ c.args.set _ (ap (λ m. m.rest) c.into_iter-k-iterator.ensures.into_iter_gives ∙ c.iter-k-items.ensures))
 
 pub with_brought-grown-requires : goal.with_brought-grown-requires
 with_brought-grown-requires c =
