@@ -1,6 +1,6 @@
 use Rattle.std.proofs.Common.{◌≡◌, ℕ, ◌+◌, ◌<◌, ◌≤◌, true, ◌||◌, [], map, length, get_or, drop, vec_items, Decides, sym, ap, ◌∙◌, subst, arith}
 use Rattle.std.proofs.lemmas.Bool.{or_left}
-use Rattle.std.proofs.lemmas.List.{at_drop_more, at_drop_all, get_or-map, length-map}
+use Rattle.std.proofs.lemmas.List.{at_drop_more, get_or-map, length-map}
 use Rattle.tables.specs.declared.sequent.Sequent.{Sequent}
 use Rattle.tables.specs.Sets.{member}
 use Rattle.tables.proofs.Listed.{length_formulas}
@@ -50,10 +50,3 @@ loop-conclusion-preserved g c =
     let only = within_is_only_roots m (member x) (member c.sequent-roots.result) c.is_within.result few c.sequent-roots.ensures (λ k h. (good_from t.good).inside i k taken (ap (λ S. S k) here ∙ h)) tells in
     let more = at_drop_more (λ l. list_any (only_roots m) (map member l)) items i nil inside in
     sym (ap (λ b. b || list_any (only_roots m) (map member (drop (i + 1) items))) (only ∙ c.if-is_within.false)) ∙ sym more ∙ c.loop-conclusion.invariant
-
-pub returns : goal.returns
-returns g c =
-    let t = c.args.self.now in
-    let items = vec_items t.steps in
-    let past : length items ≤ c.loop-conclusion.conclusion-index = omega (arith, ap length c.deref-conclusion-items.ensures.value) in
-    sym (at_drop_all (λ l. list_any (only_roots (case_model t)) (map member l)) items c.loop-conclusion.conclusion-index past) ∙ c.loop-conclusion.invariant

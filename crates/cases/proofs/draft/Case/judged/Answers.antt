@@ -1,19 +1,10 @@
-use Rattle.std.proofs.Common.{◌≡◌, map, length, None, vec_items, vec_len, refl, ap, ◌∙◌, subst, arith}
-use Rattle.std.proofs.lemmas.List.{length-map}
+use Rattle.std.proofs.Common.{map, None, refl, ap, ◌∙◌}
 use Rattle.std.proofs.lemmas.Result.{err_from_is_err_and}
 use Rattle.tables.specs.Sets.{member}
-use Rattle.cases.specs.Steps.{premises_objection, case_then_kit}
+use Rattle.cases.specs.Steps.{case_then_kit}
 use Rattle.cases.specs.Views.{stepped_model, kit_model, step_call_model}
-use Rattle.cases.proofs.HandedSteps.{premises_fit, objected, objected_by_kit, read_by_sets}
+use Rattle.cases.proofs.HandedSteps.{objected, objected_by_kit, read_by_sets}
 use Rattle.cases.proofs.draft.Case.judged.Goals as goal
-
-pub held-premises-requires : goal.held-premises-requires
-held-premises-requires g c =
-    let m = stepped_model c.args.self.now in
-    let s = step_call_model c.args.step in
-    let steps = c.args.self.now.steps in
-    let same : length m.steps ≡ vec_len steps = omega (arith, steps.ok.0, length-map (vec_items steps) member) in
-    subst (λ n. premises_objection n s.premises ≡ None) same (premises_fit m s c.in_ok-conclusion.ensures.0)
 
 pub returns-in_err-judge : goal.returns-in_err-judge
 returns-in_err-judge g c =

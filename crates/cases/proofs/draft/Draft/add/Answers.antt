@@ -1,37 +1,17 @@
-use Rattle.std.proofs.Common.{◌≡◌, ◌+◌, ◌%◌, ◌≤◌, true, ◌||◌, length, Ok, Err, vec_items, vec_len, sym, refl, ap, ◌∙◌, subst, arith}
+use Rattle.std.proofs.Common.{◌≡◌, ◌+◌, ◌%◌, ◌≤◌, true, ◌||◌, length, Ok, vec_items, vec_len, sym, refl, ap, ◌∙◌, subst, arith}
 use Rattle.std.proofs.lemmas.List.{length-map}
 use Rattle.std.proofs.Math.Bool.{or_comm}
-use Rattle.std.proofs.lemmas.Result.{err_from_is_err_and}
-use Rattle.tables.specs.Answers.{answer, after, by_number, entry}
+use Rattle.tables.specs.Answers.{answer, after, entry}
 use Rattle.tables.specs.Listing.{formulas}
 use Rattle.tables.specs.Steps.{Names}
-use Rattle.tables.proofs.Answered.{after_refused}
 use Rattle.tables.proofs.Listed.{length_formulas}
 use Rattle.cases.specs.Drafts.{is_property}
-use Rattle.cases.specs.Results.{call_number}
 use Rattle.tables.proofs.Growth.{length_grown}
 use Rattle.cases.specs.Roots.{noted, plain, all_below}
 use Rattle.cases.proofs.Inside.{all_below_more, all_below_noted}
 use Rattle.cases.specs.Views.{draft_model}
-use Rattle.cases.proofs.Clauses.{clause_objected, clause_admitted, root_named, length_noted, admitted_room}
+use Rattle.cases.proofs.Clauses.{clause_admitted, root_named, length_noted, admitted_room}
 use Rattle.cases.proofs.draft.Draft.add.Goals as goal
-
-pub returns-in_err-admit : goal.returns-in_err-admit
-returns-in_err-admit g c =
-    let p = err_from_is_err_and c.from_residual.result c.from_residual.ensures.1 in
-    let a = clause_objected (draft_model c.args.self.now) c.args.kind c.args.text.now _ c.in_err-admit.ensures in
-    record { value = ap call_number p.1 ∙ ap Err p.2 ∙ a.0; after = a.1; root = rw p.1 tt; kit = refl }
-
-pub returns-in_err-entered : goal.returns-in_err-entered
-returns-in_err-entered g c =
-    let p = err_from_is_err_and c.from_residual-in_err-entered.result c.from_residual-in_err-entered.ensures.1 in
-    let d = draft_model c.args.self.now in
-    let w = c.args.text.now in
-    let told = c.in_ok-admit.ensures in
-    let e = c.in_err-entered.ensures in
-    let read = e.value ∙ ap (λ m. answer d.formulas m w) c.form.ensures in
-    let a = clause_admitted d w c.args.kind told (by_number (Err c.in_err-entered.field-0.0)) read in
-    record { value = ap call_number p.1 ∙ ap Err p.2 ∙ a.0; after = (λ i. record { formulas = (e.after ∙ after_refused d.formulas c.form.result w _ e.value) i; roots = d.roots; clauses = d.clauses; property = d.property }) ∙ a.1; root = rw p.1 tt; kit = refl }
 
 pub returns : goal.returns
 returns g c =
