@@ -1,16 +1,12 @@
 -- Writing into a buffer, piece by piece. Assumes nothing.
-use Rattle.std.proofs.Common.{◌≡◌, ℕ, ◌+◌, ◌-◌, ◌^◌, ◌<◌, ◌≤◌, List, [], ◌∷◌, ◌++◌, length, take, drop, set, codes, decimal, sym, refl, ap, ◌∙◌, append_assoc, add-one, arith, lit<}
-use Rattle.std.proofs.lemmas.List.{length-append, length-take-le, length-drop, drop-drop, set_split, take_at, drop_at}
+use Rattle.std.proofs.Common.{◌≡◌, ℕ, ◌+◌, ◌-◌, ◌^◌, ◌<◌, ◌≤◌, List, [], ◌∷◌, ◌++◌, length, take, drop, codes, decimal, sym, refl, ap, ◌∙◌, append_assoc, arith, lit<}
+use Rattle.std.proofs.lemmas.List.{length-append, length-take-le, length-drop, drop-drop, take_at, drop_at}
 use Rattle.std.proofs.lemmas.Fmt.{length-decimal-le}
 use Rattle.texts.specs.declared.faults.Refusal.{Refusal}
 use Rattle.texts.specs.Faults.{layer_number}
 use Rattle.casefile.specs.Buffers.{overwritten}
 use Rattle.casefile.specs.Fields.{number_field, refusal_lines}
 use Rattle.casefile.specs.Sheets.{Kept}
-
--- one byte
-pub overwritten_byte : (xs : List ℕ) (at b : ℕ) → at < length xs → set xs at b ≡ overwritten xs at (b ∷ [])
-overwritten_byte xs at b lt = set_split xs at b lt ∙ ap (λ n. take at xs ++ b ∷ drop n xs) (sym (add-one at))
 
 -- some bytes, as a write to a part of the buffer gives them
 pub overwritten_part : (xs bs : List ℕ) (at k : ℕ) → k ≡ length bs → take at xs ++ (bs ++ drop k (drop at xs)) ≡ overwritten xs at bs

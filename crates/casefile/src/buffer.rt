@@ -24,8 +24,7 @@ pub(crate) fn put_byte(out: &mut [u8], at: usize, byte: u8) -> usize
     ensures value { result ≡ at + 1 }
     ensures after { out.new ≡ overwritten out.old at (byte ∷ []) }
 {
-    out[at] = byte;
-    at + 1
+    put(out, at, &[byte])
 }
 
 // Writes a number in decimal digits, without leading zeros.

@@ -85,7 +85,7 @@ pub const NO_MEMORY: i64 = -100;
 pub enum SheetFault {
     #[error("the file is empty or too long, or does not end with a line")]
     FileRefused,
-    #[error("the buffer has too little room for a line")]
+    #[error("the buffer has under 64 bytes for each line")]
     BufferTooShort,
     #[error("memory is wanting")]
     NoMemory,

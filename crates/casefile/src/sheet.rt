@@ -38,10 +38,7 @@ fn count_lines(file: &[u8]) -> usize
 fn accepted(file: &[u8]) -> bool
     ensures { result ≡ file_accepted file.now }
 {
-    if file.is_empty() || file.len() > LONGEST_FILE {
-        return false;
-    }
-    count_lines(file) <= MOST_LINES && file[file.len() - 1] == b'\n'
+    file.len() <= LONGEST_FILE && count_lines(file) <= MOST_LINES && file.last() == Some(&b'\n')
 }
 
 // What a line is answered: its key, and a number.
@@ -127,22 +124,17 @@ fn put_fault(out: &mut [u8], at: usize, line: usize, fault: LineFault) -> usize
     put_refusal(out, at, line, Refusal::from(fault))
 }
 
-// A line that was due and taken before sealing.
-enum Taken {
-    Clause(Answer),
-    Seal,
-}
-
-// Takes a line before sealing. After a property, `seal` alone is due.
+// Takes a line before sealing: the answer of a clause, or nothing where the draft is to be sealed. After a property, `seal`
+// alone is due.
 fn take_line<K: Kit + Drop>(
     draft: &mut Draft<K>,
     line: Result<Line, LineFault>,
     property: bool,
-) -> Result<Taken, LineFault> {
+) -> Result<Option<Answer>, LineFault> {
     let line = line?;
     if let Line::Seal(value) = line {
         nothing(value)?;
-        return Ok(Taken::Seal);
+        return Ok(None);
     }
     if property {
         return Err(LineFault::NotDue);
@@ -154,7 +146,7 @@ fn take_line<K: Kit + Drop>(
         Line::Prop(text) => Answer::Prop(draft.add(ClauseKind::Property, text)?),
         _ => return Err(LineFault::NotDue),
     };
-    Ok(Taken::Clause(answer))
+    Ok(Some(answer))
 }
 
 // Takes the lines before sealing. What goes on is the offset in the sheet at which the sealing is answered; where the
@@ -176,11 +168,11 @@ fn draft_lines<K: Kit + Drop>(
     let mut property = false;
     while let Some(line) = lines.next_line() {
         match take_line(draft, line, property) {
-            Ok(Taken::Clause(answer)) => {
+            Ok(Some(answer)) => {
                 property = matches!(answer, Answer::Prop(_));
                 at = put_answer(out, at, answer);
             }
-            Ok(Taken::Seal) => return ControlFlow::Continue(at),
+            Ok(None) => return ControlFlow::Continue(at),
             Err(fault) => return ControlFlow::Break(put_fault(out, at, lines.line(), fault)),
         }
     }

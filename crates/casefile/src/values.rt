@@ -1,5 +1,5 @@
 // Values of lines that are no formula texts.
-ghost use Rattle.std.specs.Prelude.{◌≡◌, ◌<◌, ◌≤◌, length, IfOk};
+ghost use Rattle.std.specs.Prelude.{◌≡◌, ◌<◌, ◌≤◌, length, IfOk, slice_get};
 
 use super::evidence::Numbers;
 use super::faults::LineFault;
@@ -73,7 +73,9 @@ impl<'a> Reader<'a> {
     }
 
     // The byte that comes next, if there is one.
-    fn peek(&self) -> Option<u8> {
+    fn peek(&self) -> Option<u8>
+        ensures { result ≡ slice_get self.now.value.now self.now.at }
+    {
         self.value.get(self.at).copied()
     }
 
@@ -87,7 +89,7 @@ impl<'a> Reader<'a> {
         ensures value { self.new.value.now ≡ self.old.value.now }
         ensures moved { IfOk result (λ _. self.old.at < self.new.at) }
     {
-        if self.value.get(self.at).copied() != Some(byte) {
+        if self.peek() != Some(byte) {
             return Err(self.fault());
         }
         self.at += 1;

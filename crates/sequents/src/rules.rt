@@ -6,7 +6,6 @@ ghost use Rattle.sequents.specs.Rooms.{PlanOf};
 use super::rooms::{Conclusion, More, Plan, Room};
 use super::rule::SequentRule;
 use pltl::{Dual, Shape};
-use tables::{Number, Sequent};
 
 impl Conclusion {
     // What the premises of a rule may have. Next has no principal formula. A match over all rules, and no table of functions:

@@ -13,8 +13,8 @@ loop-line-preserved g c =
     let w = c.put_answer-at.ensures in
     served_on c.requires.ended c.loop-line.invariant (record { same = n.file; some = n.some; passed = n.passed }) w.kept w.ahead w.room
 
-pub returns-in-Ok-Seal : goal.returns-in-Ok-Seal
-returns-in-Ok-Seal g c =
+pub returns-in-Ok-None : goal.returns-in-Ok-None
+returns-in-Ok-None g c =
     let n = c.in-Some.ensures in
     let s = c.loop-line.invariant in
     record {
