@@ -6,7 +6,7 @@ ghost use Rattle.sequents.specs.SequentRules.{sequent_allows};
 ghost use Rattle.sequents.specs.Numbered.{rule_number};
 ghost use Rattle.kits.specs.Steps.{listed, formulas_in, step_model};
 
-use super::premises::{come_next, fit};
+use super::premises::{Context, come_next};
 use super::rooms::Conclusion;
 use super::rule::SequentRule;
 use kits::Step;
@@ -44,5 +44,5 @@ fn has_principal(table: &Table, rule: SequentRule, step: &Step, premises: &[Sequ
     let Some(plan) = Conclusion { m, shape, d }.plan(rule) else {
         return false;
     };
-    fit(table, &d, plan, premises)
+    Context { table, d: &d }.fit(plan, premises)
 }

@@ -12,32 +12,116 @@ use super::rooms::{More, Plan, Room};
 use pltl::{Dual, Shape};
 use tables::{Number, Sequent, Table};
 
-// Whether there are as many premises as a plan has, and each fits.
-pub(crate) fn fit(table: &Table, d: &Sequent, plan: Plan, premises: &[Sequent]) -> bool
-    requires { plan_inside (listed table.now) plan ≡ true }
-    ensures { Decides result (FitsPlan (listed table.now) d.now plan (map (formulas_in (listed table.now)) premises.now)) }
-{
-    match plan {
-        Plan::Closed => premises.len() == 0,
-        Plan::One(room) => premises.len() == 1 && fits(table, d, room, &premises[0]),
-        Plan::Two(left, right) => {
-            premises.len() == 2
-                && (fits(table, d, left, &premises[0]) && fits(table, d, right, &premises[1]))
+// The table, and D: the conclusion without its principal formula, which the sequent calculus calls the context of that
+// formula. A step by next has no principal formula, and there D is the whole conclusion.
+#[derive(Clone, Copy)]
+pub(crate) struct Context<'a> {
+    pub(crate) table: &'a Table,
+    pub(crate) d: &'a Sequent,
+}
+
+impl Context<'_> {
+    // Whether there are as many premises as a plan has, and each fits.
+    pub(crate) fn fit(self, plan: Plan, premises: &[Sequent]) -> bool
+        requires { plan_inside (listed self.table.now) plan ≡ true }
+        ensures { Decides result (FitsPlan (listed self.entry.table.now) self.entry.d.now plan (map (formulas_in (listed self.entry.table.now)) premises.now)) }
+    {
+        match (plan, premises) {
+            (Plan::Closed, []) => true,
+            (Plan::One(room), [premise]) => self.fits(room, premise),
+            (Plan::Two(left, right), [first, second]) => {
+                self.fits(left, first) && self.fits(right, second)
+            }
+            _ => false,
         }
+    }
+
+    // Whether a premise has only what a room has.
+    fn fits(self, room: Room, premise: &Sequent) -> bool
+        requires { more_inside (listed self.table.now) room.more ≡ true }
+        ensures { Decides result (FitsRoom (listed self.entry.table.now) self.entry.d.now room (formulas_in (listed self.entry.table.now) premise.now)) }
+    {
+        let beside = premise.minus(&room.set);
+        beside.iter().all(|k| self.is_added(room.more, k))
+    }
+
+    // Whether the formula of a number is one that a rule adds.
+    fn is_added(self, more: More, k: Number) -> bool
+        requires { more_inside (listed self.table.now) more ≡ true }
+        ensures { Decides result (k.0 < length (listed self.entry.table.now) → Added (listed self.entry.table.now) self.entry.d.now more (numbered (listed self.entry.table.now) k.0)) }
+    {
+        let Some(shape) = self.table.shape(k) else {
+            return true;
+        };
+        let Shape::Next(next) = shape else {
+            return false;
+        };
+        match more {
+            More::Nothing => false,
+            More::NextOf(m) => next == m,
+            More::SomeAgain(a) => self.is_some_again(next, a),
+            More::UntilAgain(a, b) => self.is_until_again(next, a, b),
+        }
+    }
+
+    // Whether a formula is N U A, and N covers D.
+    fn is_some_again(self, k: Number, a: Number) -> bool
+        requires { (k.0 < length (listed self.table.now)) × (a.0 < length (listed self.table.now)) }
+        ensures { Decides result ((n : Formula) × (numbered (listed self.entry.table.now) k.0 ≡ Until n (numbered (listed self.entry.table.now) a.0)) × Covers n (Inside (listed self.entry.table.now) self.entry.d.now)) }
+    {
+        match self.table.shape(k) {
+            Some(Shape::Until(n, goal)) => goal == a && self.covers(n),
+            _ => false,
+        }
+    }
+
+    // Whether a formula is (A & N) U B, and N covers D.
+    fn is_until_again(self, k: Number, a: Number, b: Number) -> bool
+        requires { (k.0 < length (listed self.table.now)) × ((a.0 < length (listed self.table.now)) × (b.0 < length (listed self.table.now))) }
+        ensures { Decides result ((n : Formula) × (numbered (listed self.entry.table.now) k.0 ≡ Until (And (numbered (listed self.entry.table.now) a.0) n) (numbered (listed self.entry.table.now) b.0)) × Covers n (Inside (listed self.entry.table.now) self.entry.d.now)) }
+    {
+        match self.table.shape(k) {
+            Some(Shape::Until(both, goal)) => goal == b && self.is_and_covering(both, a),
+            _ => false,
+        }
+    }
+
+    // Whether a formula is A & N, and N covers D.
+    fn is_and_covering(self, k: Number, a: Number) -> bool
+        requires { (k.0 < length (listed self.table.now)) × (a.0 < length (listed self.table.now)) }
+        ensures { Decides result ((n : Formula) × (numbered (listed self.entry.table.now) k.0 ≡ And (numbered (listed self.entry.table.now) a.0) n) × Covers n (Inside (listed self.entry.table.now) self.entry.d.now)) }
+    {
+        match self.table.shape(k) {
+            Some(Shape::And(left, n)) => left == a && self.covers(n),
+            _ => false,
+        }
+    }
+
+    // Whether a formula has among its alternatives the opposite of every formula of D that is not an always-formula.
+    fn covers(self, n: Number) -> bool
+        requires { n.0 < length (listed self.table.now) }
+        ensures { Decides result (Covers (numbered (listed self.entry.table.now) n.0) (Inside (listed self.entry.table.now) self.entry.d.now)) }
+    {
+        let alternatives = alternatives(self.table, n);
+        self.d
+            .iter()
+            .all(|k| is_covered(self.table, &alternatives, k))
     }
 }
 
 // Whether there is one premise, and X of each of its formulas is in the conclusion.
+#[tactic(auto, using(crate::specs::AllowedSteps::next_long))]
 pub(crate) fn come_next(table: &Table, conclusion: &Sequent, premises: &[Sequent]) -> bool
     ensures { (m : Formula) → Decides result (Rule (formulas_in (listed table.now) conclusion.now) m 11 (map (formulas_in (listed table.now)) premises.now)) }
 {
-    premises.len() == 1
-        && fits(
-            table,
-            conclusion,
-            Room::of(nexts(table, conclusion)),
-            &premises[0],
-        )
+    let context = Context {
+        table,
+        d: conclusion,
+    };
+    match premises {
+        [premise] => context.fits(Room::of(nexts(table, conclusion)), premise),
+        _ => false,
+    }
 }
 
 // The formulas whose X is in a conclusion.
@@ -59,76 +143,6 @@ fn with_next(table: &Table, k: Number, found: Sequent) -> Sequent
         Some(Shape::Next(a)) => found.with(a),
         _ => found,
     }
-}
-
-// Whether a premise has only what a room has.
-fn fits(table: &Table, d: &Sequent, room: Room, premise: &Sequent) -> bool
-    requires { more_inside (listed table.now) room.more ≡ true }
-    ensures { Decides result (FitsRoom (listed table.now) d.now room (formulas_in (listed table.now) premise.now)) }
-{
-    let beside = premise.minus(&room.set);
-    beside.iter().all(|k| is_added(table, d, room.more, k))
-}
-
-// Whether the formula of a number is one that a rule adds.
-fn is_added(table: &Table, d: &Sequent, more: More, k: Number) -> bool
-    requires { more_inside (listed table.now) more ≡ true }
-    ensures { Decides result (k.0 < length (listed table.now) → Added (listed table.now) d.now more (numbered (listed table.now) k.0)) }
-{
-    let Some(shape) = table.shape(k) else {
-        return true;
-    };
-    let Shape::Next(next) = shape else {
-        return false;
-    };
-    match more {
-        More::Nothing => false,
-        More::NextOf(m) => next == m,
-        More::SomeAgain(a) => is_some_again(table, d, next, a),
-        More::UntilAgain(a, b) => is_until_again(table, d, next, a, b),
-    }
-}
-
-// Whether a formula is N U A, and N covers D.
-fn is_some_again(table: &Table, d: &Sequent, k: Number, a: Number) -> bool
-    requires { (k.0 < length (listed table.now)) × (a.0 < length (listed table.now)) }
-    ensures { Decides result ((n : Formula) × (numbered (listed table.now) k.0 ≡ Until n (numbered (listed table.now) a.0)) × Covers n (Inside (listed table.now) d.now)) }
-{
-    match table.shape(k) {
-        Some(Shape::Until(n, goal)) => goal == a && covers(table, d, n),
-        _ => false,
-    }
-}
-
-// Whether a formula is (A & N) U B, and N covers D.
-fn is_until_again(table: &Table, d: &Sequent, k: Number, a: Number, b: Number) -> bool
-    requires { (k.0 < length (listed table.now)) × ((a.0 < length (listed table.now)) × (b.0 < length (listed table.now))) }
-    ensures { Decides result ((n : Formula) × (numbered (listed table.now) k.0 ≡ Until (And (numbered (listed table.now) a.0) n) (numbered (listed table.now) b.0)) × Covers n (Inside (listed table.now) d.now)) }
-{
-    match table.shape(k) {
-        Some(Shape::Until(both, goal)) => goal == b && is_and_covering(table, d, both, a),
-        _ => false,
-    }
-}
-
-// Whether a formula is A & N, and N covers D.
-fn is_and_covering(table: &Table, d: &Sequent, k: Number, a: Number) -> bool
-    requires { (k.0 < length (listed table.now)) × (a.0 < length (listed table.now)) }
-    ensures { Decides result ((n : Formula) × (numbered (listed table.now) k.0 ≡ And (numbered (listed table.now) a.0) n) × Covers n (Inside (listed table.now) d.now)) }
-{
-    match table.shape(k) {
-        Some(Shape::And(left, n)) => left == a && covers(table, d, n),
-        _ => false,
-    }
-}
-
-// Whether a formula has among its alternatives the opposite of every formula of D that is not an always-formula.
-fn covers(table: &Table, d: &Sequent, n: Number) -> bool
-    requires { n.0 < length (listed table.now) }
-    ensures { Decides result (Covers (numbered (listed table.now) n.0) (Inside (listed table.now) d.now)) }
-{
-    let alternatives = alternatives(table, n);
-    d.iter().all(|k| is_covered(table, &alternatives, k))
 }
 
 // Whether a formula is an always-formula or its opposite is in a set.

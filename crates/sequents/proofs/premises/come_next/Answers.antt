@@ -1,5 +1,4 @@
-use Rattle.std.proofs.Common.{[], map, length, get_or, Decides, sym, subst, inl, ⊎_elim}
-use Rattle.std.proofs.lemmas.Bool.{eqb-true, eq-eqb}
+use Rattle.std.proofs.Common.{[], map, get_or, Decides, sym, subst, inl, ⊎_elim, arith}
 use Rattle.pltl.specs.Formulas.{Next}
 use Rattle.calculus.specs.Sequents.{◌∈◌}
 use Rattle.calculus.specs.Rules.{Rule}
@@ -7,15 +6,15 @@ use Rattle.calculus.specs.Rules as rule
 use Rattle.tables.specs.declared.sequent.Sequent.{Sequent}
 use Rattle.sequents.specs.Rooms.{Inside, FitsRoom}
 use Rattle.kits.specs.Steps.{listed, formulas_in}
-use Rattle.sequents.specs.AllowedSteps.{only_one, next_fits, next_long}
+use Rattle.sequents.specs.AllowedSteps.{only_one, next_fits}
 use Rattle.kits.proofs.InSequents.{in_from_number, number_from_in}
 use Rattle.sequents.proofs.premises.come_next.Goals as goal
 
 abbrev none : Sequent
 none = record { words = [] }
 
-pub returns-then-premises-eq1 : goal.returns-then-premises-eq1
-returns-then-premises-eq1 c =
+pub returns-in-len1 : goal.returns-in-len1
+returns-in-len1 c =
     λ m.
     let fs = listed c.args.table.now in
     let s = c.args.conclusion.now in
@@ -24,7 +23,7 @@ returns-then-premises-eq1 c =
     let p = get_or ps 0 none in
     let next = c.nexts.result in
     let n = c.nexts.ensures in
-    let one = only_one ps none c.if-premises-eq1.true in
+    let one = only_one ps none (omega (arith, c.in-len1.len_at_least, c.in-len1.len_below)) in
     let h = subst (λ r. Decides c.fits.result (FitsRoom fs s r (formulas_in fs p))) c.of.ensures c.fits.ensures in (
       λ e.
           subst (λ qs. Rule Γ m 11 (map (formulas_in fs) qs)) (sym one)
@@ -40,12 +39,4 @@ returns-then-premises-eq1 c =
           (λ g i.
           let r = number_from_in fs p g i in
           inl (subst (Inside fs next) r.3 (in_from_number fs next r.0 r.1 ((n r.0 r.1).1 (subst (λ x. Next x ∈ Γ) (sym r.3) (fits g i)))))),
-    )
-
-pub returns-else-premises-eq1 : goal.returns-else-premises-eq1
-returns-else-premises-eq1 c =
-    λ m.
-    let ps = c.args.premises.now in (
-      λ e. absurd (c.if-premises-eq1.false (eqb-true (length ps) 1 e)),
-      λ s. eq-eqb (length ps) 1 (next_long (listed c.args.table.now) ps s),
     )

@@ -7,13 +7,13 @@ use Rattle.tables.proofs.SetLists.{decides_all}
 use Rattle.sequents.specs.Rooms.{Inside, Added}
 use Rattle.kits.specs.Steps.{listed}
 use Rattle.kits.proofs.InSequents.{in_from_number, number_from_in, member_from_in, table_lawful}
-use Rattle.sequents.proofs.premises.fits.Goals as goal
+use Rattle.sequents.proofs.premises.Context.fits.Goals as goal
 
 pub returns : goal.returns
 returns c =
-    let t = c.args.table.now in
+    let t = c.args.self.table.now in
     let fs = listed t in
-    let d = c.args.d.now in
+    let d = c.args.self.d.now in
     let room = c.args.room in
     let premise = c.args.premise.now in
     let beside = c.minus-beside.result in

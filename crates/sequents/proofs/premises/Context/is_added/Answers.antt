@@ -6,13 +6,13 @@ use Rattle.tables.specs.Listing.{numbered}
 use Rattle.sequents.specs.Rooms.{Added, more_inside}
 use Rattle.kits.specs.Steps.{listed}
 use Rattle.kits.proofs.InSequents.{table_lawful}
-use Rattle.sequents.proofs.premises.is_added.Goals as goal
+use Rattle.sequents.proofs.premises.Context.is_added.Goals as goal
 
 pub returns-in-NextOf : goal.returns-in-NextOf
 returns-in-NextOf c =
-    let t = c.args.table.now in
+    let t = c.args.self.table.now in
     let fs = listed t in
-    let d = c.args.d.now in
+    let d = c.args.self.d.now in
     let k = c.args.k.0 in
     let a = c.in-Next.next in
     let m = c.in-NextOf.m in

@@ -10,15 +10,15 @@ use Rattle.tables.proofs.SetLists.{decides_all}
 use Rattle.sequents.specs.Rooms.{Inside}
 use Rattle.kits.specs.Steps.{listed, formulas_in}
 use Rattle.kits.proofs.InSequents.{in_from_number, number_from_in, table_lawful, table_even}
-use Rattle.sequents.proofs.premises.covers.Goals as goal
+use Rattle.sequents.proofs.premises.Context.covers.Goals as goal
 
 pub returns : goal.returns
 returns c =
-    let t = c.args.table.now in
+    let t = c.args.self.table.now in
     let fs = listed t in
     let s = c.alternatives-alternatives.result in
     let are = c.alternatives-alternatives.ensures in
-    let d = c.args.d.now in
+    let d = c.args.self.d.now in
     let n = numbered fs c.args.n.0 in
     Decides-like c.all.result
     (λ all g i plain.
