@@ -33,27 +33,6 @@ module _ (xs ps bs cs ds : List ℕ) (at : ℕ) (room : at + length (ps ++ (bs +
             subst (λ q. Wrote xs at q ts l) (append_assoc (ps ++ bs) cs ds ∙ append_assoc ps bs (cs ++ ds))
             (wrote_on three t (omega (arith, parts, length-append ps bs, length-append (ps ++ bs) cs)))
 
-pub put_field-layer-requires : goal.put_field-layer-requires
-put_field-layer-requires c = omega (arith, parts _ (number_field (codes "refused") c.args.refusal.number) (number_field (codes "layer") (layer_number c.args.refusal.layer)) (number_field (codes "line") c.args.line) (number_field (codes "place") c.args.refusal.place) _ c.requires)
-
-pub put_field-number-requires : goal.put_field-number-requires
-put_field-number-requires c =
-    rw c.into.ensures (after_one _ (number_field (codes "refused") c.args.refusal.number) (number_field (codes "layer") (layer_number c.args.refusal.layer)) (number_field (codes "line") c.args.line) (number_field (codes "place") c.args.refusal.place) _ c.requires
-    _ _ (record { value = c.put_field-layer.ensures.value; after = c.put_field-layer.ensures.after }))
-
-pub put_field-place-requires : goal.put_field-place-requires
-put_field-place-requires c =
-    after_two _ (number_field (codes "refused") c.args.refusal.number) (number_field (codes "layer") (layer_number c.args.refusal.layer)) (number_field (codes "line") c.args.line) (number_field (codes "place") c.args.refusal.place) _ c.requires
-    _ _ (record { value = c.put_field-layer.ensures.value; after = c.put_field-layer.ensures.after })
-    _ _ (subst (λ n. Wrote c.put_field-layer.new.out c.put_field-layer.result (number_field (codes "layer") n) c.put_field-number.new.out c.put_field-number.result) c.into.ensures (record { value = c.put_field-number.ensures.value; after = c.put_field-number.ensures.after }))
-
-pub put_field-requires : goal.put_field-requires
-put_field-requires c =
-    after_three _ (number_field (codes "refused") c.args.refusal.number) (number_field (codes "layer") (layer_number c.args.refusal.layer)) (number_field (codes "line") c.args.line) (number_field (codes "place") c.args.refusal.place) _ c.requires
-    _ _ (record { value = c.put_field-layer.ensures.value; after = c.put_field-layer.ensures.after })
-    _ _ (subst (λ n. Wrote c.put_field-layer.new.out c.put_field-layer.result (number_field (codes "layer") n) c.put_field-number.new.out c.put_field-number.result) c.into.ensures (record { value = c.put_field-number.ensures.value; after = c.put_field-number.ensures.after }))
-    _ _ (record { value = c.put_field-place.ensures.value; after = c.put_field-place.ensures.after })
-
 pub returns : goal.returns
 returns c =
     let w = four _ (number_field (codes "refused") c.args.refusal.number) (number_field (codes "layer") (layer_number c.args.refusal.layer)) (number_field (codes "line") c.args.line) (number_field (codes "place") c.args.refusal.place) _ c.requires

@@ -1,23 +1,8 @@
-use Rattle.std.proofs.Common.{ℕ, ◌≤◌, List, length, drop, length-drop, sym, ap, ◌∙◌, subst, arith}
+use Rattle.std.proofs.Common.{ℕ, ◌≤◌, List, length, drop, length-drop, ap, arith}
 use Rattle.casefile.specs.Newlines.{newlines}
-use Rattle.casefile.specs.Sheets.{LinesEnd}
 use Rattle.casefile.proofs.Passing.{newlines_few}
 use Rattle.casefile.proofs.Writing.{kept_on}
 use Rattle.casefile.proofs.sheet.kit_sheet.Goals as goal
-
-pub read_lines-requires : goal.read_lines-requires
-read_lines-requires g c =
-    let most = c.count_lines-most.ensures ∙ ap newlines c.rest.ensures in
-    let d = c.in-Continue.ensures in
-    let same = ap (λ (f : List ℕ). newlines (drop c.draft_lines.new.lines.at f)) d.file in
-    record { ended = subst LinesEnd (sym d.file) c.requires.ended; room = omega (arith, d.room, c.put_letter-at.ensures.room, same, most, c.in_ok-read.ensures.len, c.in_ok-read.ensures.capacity) }
-
-pub enter_calls-requires : goal.enter_calls-requires
-enter_calls-requires g c =
-    let most = c.count_lines-most.ensures ∙ ap newlines c.rest.ensures in
-    let d = c.in-Continue.ensures in
-    let same = ap (λ (f : List ℕ). newlines (drop c.draft_lines.new.lines.at f)) d.file in
-    omega (arith, d.room, c.put_letter-at.ensures.room, same, most, c.read_lines.ensures.few, c.as_slice.ensures.len, c.in_ok-read.ensures.len, c.in_ok-entries.ensures.len, c.in_ok-entries.ensures.capacity)
 
 pub put_evidence-requires : goal.put_evidence-requires
 put_evidence-requires g c =

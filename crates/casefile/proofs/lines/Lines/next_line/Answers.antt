@@ -1,16 +1,9 @@
 use Rattle.std.proofs.Common.{◌≡◌, ◌+◌, length, drop, sym, ap, ◌∙◌, arith}
-use Rattle.std.proofs.lemmas.Bool.{eqb-true}
 use Rattle.std.proofs.lemmas.List.{at_drop_all, drop-drop}
 use Rattle.casefile.specs.Newlines.{newlines}
-use Rattle.casefile.proofs.Passing.{newlines_few, first_passed, none_passed}
+use Rattle.casefile.proofs.Passing.{first_passed, none_passed}
 use Rattle.casefile.proofs.lines.Lines.next_line.Goals as goal
 use Rattle.casefile.proofs.lines.Lines.next_line.Goals.{in-Some, in-None}
-
-pub returns-then-is_empty-clause-passed : goal.returns-then-is_empty-clause-passed
-returns-then-is_empty-clause-passed c =
-    let rest = drop c.args.self.now.at c.args.self.now.file.now in
-    let none : length rest ≡ 0 = ap length (sym c.rest-rest.ensures) ∙ eqb-true (length c.rest-rest.result.now) 0 (sym c.is_empty.ensures ∙ c.if-is_empty.true) in
-    omega (arith, newlines_few rest, none)
 
 pub returns-clause-passed : goal.returns-clause-passed
 returns-clause-passed c =
