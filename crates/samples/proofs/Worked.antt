@@ -21,6 +21,7 @@ marked_samples = record {
   opposite_beside = refl;
   implies_to_the_right = refl;
   until_before_and = refl;
+  text_layer = refl;
   only_begun = refl;
   two_letters = refl;
   bracket_open = refl;

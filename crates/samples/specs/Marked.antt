@@ -5,7 +5,8 @@ use Rattle.pltl.specs.Formulas.{Tree, Formula, True, False, normal}
 use Rattle.pltl.specs.Runs.{Run}
 use Rattle.texts.specs.declared.faults.TextFault.{TextFault}
 use Rattle.texts.specs.declared.faults.Refusal.{Refusal}
-use Rattle.texts.specs.Faults.{refusal}
+use Rattle.texts.specs.declared.faults.Layer.TheVariants as layer
+use Rattle.texts.specs.Faults.{layer_number, refusal}
 use Rattle.tables.specs.declared.table.entering.Form.TheVariants.{Itself}
 use Rattle.texts.specs.Scan.{reading}
 use Rattle.tables.specs.Answers.{answer, after}
@@ -110,9 +111,10 @@ pub record MarkedSamples : Type 0 where
   pub opposite_beside : answer (after empty Itself (codes "!(aUb)")) Itself (codes "aUb") ≡ Ok 7
   pub implies_to_the_right : answer empty Itself (codes "a->b->a") ≡ Ok 8
   pub until_before_and : answer empty Itself (codes "aUb&c") ≡ Ok 10
-  pub only_begun : told (answer empty Itself (codes "G")) ≡ Err (record { number = 4; layer = 1; place = 1 })
-  pub two_letters : told (answer empty Itself (codes "aa")) ≡ Err (record { number = 3; layer = 1; place = 1 })
-  pub bracket_open : told (answer empty Itself (codes "(a")) ≡ Err (record { number = 4; layer = 1; place = 2 })
+  pub text_layer : layer_number layer.Text ≡ 1
+  pub only_begun : told (answer empty Itself (codes "G")) ≡ Err (record { number = 4; layer = layer.Text; place = 1 })
+  pub two_letters : told (answer empty Itself (codes "aa")) ≡ Err (record { number = 3; layer = layer.Text; place = 1 })
+  pub bracket_open : told (answer empty Itself (codes "(a")) ≡ Err (record { number = 4; layer = layer.Text; place = 2 })
   pub next_row : TextRow to_first (codes "Xa") 2
   pub infinitely_often : TextRow to_first (codes "GFa") 3
   pub at_last_always : TextRow to_first (codes "FGa") 0
