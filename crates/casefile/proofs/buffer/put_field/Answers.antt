@@ -38,20 +38,6 @@ module _ (xs key : List ℕ) (at n : ℕ) (room : at + length (number_field key 
             (append_assoc (key ++ 61 ∷ []) (decimal n) (10 ∷ []) ∙ append_assoc key (61 ∷ []) (decimal n ++ 10 ∷ []))
             (wrote_on digits t (omega (arith, parts, longer)))
 
-pub put-equals-requires : goal.put-equals-requires
-put-equals-requires c = omega (arith, parts _ _ _ _ c.requires)
-
-pub put_byte-value-requires : goal.put_byte-value-requires
-put_byte-value-requires c = after_key _ _ _ _ c.requires _ _ (record { value = c.put-equals.ensures.value; after = c.put-equals.ensures.after })
-
-pub put_number-end-requires : goal.put_number-end-requires
-put_number-end-requires c =
-    after_equals _ _ _ _ c.requires _ _ (record { value = c.put-equals.ensures.value; after = c.put-equals.ensures.after }) _ _ (record { value = c.put_byte-value.ensures.value; after = c.put_byte-value.ensures.after })
-
-pub put_byte-requires : goal.put_byte-requires
-put_byte-requires c =
-    after_digits _ _ _ _ c.requires _ _ (record { value = c.put-equals.ensures.value; after = c.put-equals.ensures.after }) _ _ (record { value = c.put_byte-value.ensures.value; after = c.put_byte-value.ensures.after }) _ _ (record { value = c.put_number-end.ensures.value; after = c.put_number-end.ensures.after })
-
 pub returns : goal.returns
 returns c =
     let w = whole _ _ _ _ c.requires _ _ (record { value = c.put-equals.ensures.value; after = c.put-equals.ensures.after }) _ _ (record { value = c.put_byte-value.ensures.value; after = c.put_byte-value.ensures.after }) _ _ (record { value = c.put_number-end.ensures.value; after = c.put_number-end.ensures.after }) _ _ (record { value = c.put_byte.ensures.value; after = c.put_byte.ensures.after }) in

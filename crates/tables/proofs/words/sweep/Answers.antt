@@ -2,11 +2,8 @@ use Rattle.std.proofs.Common.{◌≡◌, ℕ, Bool, zero, suc, ◌*◌, ◌^◌,
 use Rattle.tables.specs.Rows.{bit}
 use Rattle.tables.specs.Words.{In}
 use Rattle.tables.proofs.Sweeps.{Each, Soon}
-use Rattle.tables.proofs.SweptWords.{found_first, along_first, found_doubled, along_doubled, found_all}
+use Rattle.tables.proofs.SweptWords.{found_doubled, along_doubled, found_all}
 use Rattle.tables.proofs.words.sweep.Goals as goal
-
-pub loop-span-init : goal.loop-span-init
-loop-span-init c = (found_first c.args.through c.args.goal, along_first c.args.through c.args.goal)
 
 -- the span of a turn
 span_of : (k : ℕ) → k < 6 → get_or (1 ∷ 2 ∷ 4 ∷ 8 ∷ 16 ∷ 32 ∷ []) k 0 ≡ 2 ^ k

@@ -13,6 +13,3 @@ pub invariant_of-self : goal.invariant_of-self
 invariant_of-self c =
     let v = c.args.self.now in
     record { room = search rules; once = subst (λ l. none_twice l ≡ true) (sym (pushed c)) (none_twice_push (plain (vec_items v.numbers)) c.args.number.0 v.once (sym c.if-not-contains.ensures)) }
-
-pub returns-then-not-contains : goal.returns-then-not-contains
-returns-then-not-contains c = pushed (goal.at.returns-then-not-contains c).After-push_reserved ∙ sym (cond-false _ _ _ (sym c.if-not-contains.ensures))

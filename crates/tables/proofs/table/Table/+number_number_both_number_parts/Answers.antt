@@ -33,9 +33,3 @@ number_both-returns-in_err-left t c =
     let ns = vec_items c.args.syntax.now.nodes in
     let gs = enter (formulas (vec_items c.args.self.now.shapes)) (formula_at ns c.args.left) in
     record { value = rw c.from_residual.ensures (omega (arith, h.value, length_grown (enter_grown gs (formula_at ns c.args.right)))); grown = h.grown }
-
-pub number_both-returns-in_err-right : goal.number_both-returns-in_err-right
-number_both-returns-in_err-right t c =
-    let l = c.in_ok-left.ensures in
-    let h = c.in_err-right.ensures in
-    record { value = rw c.from_residual-in_err-right.ensures (rw l.value.0 at h.value); grown = grown_on l.grown h.grown }

@@ -1,13 +1,10 @@
-use Rattle.std.proofs.Common.{◌<◌, length, get_or, vec_items, ap, ◌∙◌, arith, rules}
+use Rattle.std.proofs.Common.{◌<◌, length, get_or, vec_items, ap, ◌∙◌, arith}
 use Rattle.std.proofs.lemmas.List.{length-set}
 use Rattle.pltl.specs.declared.Shape.TheVariants.{True}
 use Rattle.tables.specs.Listing.{numbered, formulas}
 use Rattle.tables.proofs.Listed.{length_formulas}
 use Rattle.tables.proofs.RowPass.{row_added}
 use Rattle.tables.proofs.table.Table.rows.Goals as goal
-
-pub loop-i-init : goal.loop-i-init
-loop-i-init c = (search rules, λ k lt r is turn. absurd (omega arith))
 
 pub loop-i-preserved : goal.loop-i-preserved
 loop-i-preserved c =
