@@ -8,10 +8,6 @@ use Rattle.casefile.specs.Buffers.{overwritten}
 use Rattle.casefile.specs.Fields.{number_field, refusal_lines}
 use Rattle.casefile.specs.Sheets.{Kept}
 
--- some bytes, as a write to a part of the buffer gives them
-pub overwritten_part : (xs bs : List ℕ) (at k : ℕ) → k ≡ length bs → take at xs ++ (bs ++ drop k (drop at xs)) ≡ overwritten xs at bs
-overwritten_part xs bs at k e = ap (λ l. take at xs ++ (bs ++ l)) (drop-drop k at xs ∙ ap (λ n. drop (at + n) xs) e)
-
 pub length_overwritten : (xs bs : List ℕ) (at : ℕ) → at + length bs ≤ length xs → length (overwritten xs at bs) ≡ length xs
 length_overwritten xs bs at le =
     omega (arith, length-append (take at xs) (bs ++ drop (at + length bs) xs), length-append bs (drop (at + length bs) xs), length-take-le at xs (omega arith), length-drop (at + length bs) xs)

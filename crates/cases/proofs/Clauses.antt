@@ -1,5 +1,5 @@
 -- The call clause, by its ways. Assumes nothing.
-use Rattle.std.proofs.Common.{◌≡◌, ℕ, ◌+◌, ◌<◌, ◌≤◌, ◌&&◌, leb, List, [], ◌∷◌, ◌++◌, length, Some, None, Err, Result, sym, ap, ◌∙◌, subst, ⊎_elim, arith}
+use Rattle.std.proofs.Common.{◌≡◌, ℕ, ◌+◌, ◌<◌, ◌≤◌, ◌&&◌, leb, List, [], ◌∷◌, ◌++◌, length, Some, None, Result, sym, ap, ◌∙◌, subst, ⊎_elim, arith}
 use Rattle.std.proofs.lemmas.List.{length_push}
 use Rattle.std.proofs.lemmas.Bool.{cases_Bool, cond-true, cond-false, leb-false}
 use Rattle.pltl.specs.Formulas.{Tree, Formula}
@@ -12,16 +12,11 @@ use Rattle.tables.proofs.Laws.{named_beside}
 use Rattle.texts.specs.declared.faults.TextFault.{TextFault}
 use Rattle.cases.specs.declared.faults.CaseFault.{CaseFault}
 use Rattle.cases.specs.declared.faults.CaseFault.TheVariants.{SecondProperty, TooManyClauses}
-use Rattle.cases.specs.declared.faults.CallFault.TheVariants.{Case}
 use Rattle.cases.specs.declared.kind.ClauseKind.{ClauseKind}
 use Rattle.cases.specs.declared.kind.ClauseKind.TheVariants.{Init, Invariant, Transition, Property}
 use Rattle.cases.specs.Drafts.{root_formula, form_of, root_number, is_property, objection, clause_of_kind, draft_of_kind, clause_unless, draft_unless, clause_of, after_clause_of}
 use Rattle.cases.specs.Models.{DraftModel}
 use Rattle.cases.specs.Roots.{contains, noted}
-
--- a draft that objects answers its objection, and stays as it was
-pub clause_objected : (d : DraftModel) (k : ClauseKind) (w : List ℕ) (f : CaseFault) → objection d (Some k) ≡ Some f → (Err (Case f) ≡ clause_of d (Some k) w) × (d ≡ after_clause_of d (Some k) w)
-clause_objected d k w f e = (ap (λ o. clause_unless o d (Some k) w) (sym e), ap (λ o. draft_unless o d (Some k) w) (sym e))
 
 -- what the text is answered is answered by the call
 pub clause_admitted : (d : DraftModel) (w : List ℕ) (k : ClauseKind) → objection d (Some k) ≡ None → (r : Result ℕ TextFault) → r ≡ answer d.formulas (form_of k) w

@@ -1,5 +1,5 @@
 -- What calls keep: the root formulas; and that the answers tell the recorded run. Assumes nothing.
-use Rattle.std.proofs.Common.{◌≡◌, ℕ, true, List, [], ◌∷◌, ◌++◌, map, length, Some, None, Option, Result, sym, refl, ap, ◌∙◌, append-nil}
+use Rattle.std.proofs.Common.{◌≡◌, ℕ, true, List, [], ◌∷◌, ◌++◌, map, length, Some, None, Option, Result, sym, refl, ap, ◌∙◌}
 use Rattle.std.proofs.lemmas.Bool.{and_parts, ltb-true}
 use Rattle.pltl.specs.Formulas.{Formula}
 use Rattle.tables.specs.Listing.{numbered}
@@ -72,6 +72,3 @@ pub calls_recorded : (k : KitModel) (c : SteppedModel) (xs : List CallModel) (mo
 calls_recorded k c [] more = refl
 calls_recorded k c (x ∷ xs) more =
     ap (λ m. recorded_by m xs (answers_to k (after_call k c x) xs ++ more)) (call_recorded k c x) ∙ calls_recorded k (after_call k c x) xs more
-
-pub recorded_is : (k : KitModel) (c : SteppedModel) (xs : List CallModel) → recorded_by c.case.run xs (answers_to k c xs) ≡ (after_calls k c xs).case.run
-recorded_is k c xs = ap (recorded_by c.case.run xs) (sym (append-nil (answers_to k c xs))) ∙ calls_recorded k c xs []

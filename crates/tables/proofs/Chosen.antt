@@ -1,21 +1,13 @@
 -- The formulas that a set of numbers chooses: exactly those of its numbers, and no others as formulas are added. Assumes nothing.
-use Rattle.std.proofs.Common.{◌≡◌, ℕ, zero, suc, ◌+◌, ◌<◌, ◌≤◌, Bool, true, false, cond, List, [], ◌∷◌, ◌++◌, length, get_or, sym, refl, ap, ◌∙◌, subst, add-one, arith}
-use Rattle.std.proofs.lemmas.Bool.{true≢false, cond-false}
+use Rattle.std.proofs.Common.{◌≡◌, ℕ, zero, suc, ◌+◌, ◌<◌, ◌≤◌, Bool, true, false, cond, List, [], ◌∷◌, ◌++◌, length, get_or, refl, ap, ◌∙◌, subst, add-one, arith}
+use Rattle.std.proofs.lemmas.Bool.{cond-false}
 use Rattle.pltl.specs.Formulas.{Formula, True}
 use Rattle.tables.specs.Listing.{numbered}
 use Rattle.tables.specs.Sets.{chosen}
 
--- sets that agree at every number are equal, so they choose the same formulas
-pub members_equal : (S T : ℕ → Bool) → ((k : ℕ) → S k ≡ T k) → S ≡ T
-members_equal S T h j k = h k j
-
 -- an index of a list has the formula of a number of the set
 abbrev From : (ℕ → Bool) → List Formula → List Formula → ℕ → Type 0
 From S fs cs i = (n : ℕ) × (n < length fs) × (S n ≡ true) × (get_or cs i True ≡ numbered fs n)
-
--- a number's formula is at an index of a list
-abbrev Among : List Formula → List Formula → ℕ → Type 0
-Among fs cs n = (i : ℕ) × (i < length cs) × (get_or cs i True ≡ numbered fs n)
 
 -- one formula more, in front
 module _ (S : ℕ → Bool) (f : Formula) (fs rest : List Formula) where
@@ -27,25 +19,11 @@ module _ (S : ℕ → Bool) (f : Formula) (fs rest : List Formula) where
   from_front true e h (suc i) lt = from_after i (h i (omega arith))
   from_front false e h i lt = from_after i (h i lt)
 
-  among_front : (b : Bool) → S 0 ≡ b → ((n : ℕ) → n < length fs → S (n + 1) ≡ true → Among fs rest n) → (n : ℕ) → n < suc (length fs) → S n ≡ true → Among (f ∷ fs) (cond b (f ∷ rest) rest) n
-  among_front true e h zero lt s = (0, omega arith, refl)
-  among_front true e h (suc n) lt s =
-      let r = h n (omega arith) (subst (λ m. S m ≡ true) (sym (add-one n)) s) in
-      (suc r.0, omega (arith, r.1), r.2)
-  among_front false e h zero lt s = absurd (true≢false (sym s ∙ e))
-  among_front false e h (suc n) lt s = h n (omega arith) (subst (λ m. S m ≡ true) (sym (add-one n)) s)
-
 -- every formula that is chosen is that of a number of the set
 pub chosen_from : (S : ℕ → Bool) (fs : List Formula) (i : ℕ) → i < length (chosen S fs) → (n : ℕ) × (n < length fs) × (S n ≡ true) × (get_or (chosen S fs) i True ≡ numbered fs n)
 unfolding chosen
 chosen_from S [] i lt = absurd (omega arith)
 chosen_from S (f ∷ fs) i lt = from_front S f fs (chosen (λ n. S (n + 1)) fs) (S 0) refl (chosen_from (λ n. S (n + 1)) fs) i lt
-
--- the formula of every number of the set is chosen
-pub chosen_has : (S : ℕ → Bool) (fs : List Formula) (n : ℕ) → n < length fs → S n ≡ true → (i : ℕ) × (i < length (chosen S fs)) × (get_or (chosen S fs) i True ≡ numbered fs n)
-unfolding chosen
-chosen_has S [] n lt s = absurd (omega arith)
-chosen_has S (f ∷ fs) n lt s = among_front S f fs (chosen (λ n. S (n + 1)) fs) (S 0) refl (chosen_has (λ n. S (n + 1)) fs) n lt s
 
 pub chosen_none : (S : ℕ → Bool) (fs : List Formula) → ((n : ℕ) → S n ≡ false) → chosen S fs ≡ []
 unfolding chosen

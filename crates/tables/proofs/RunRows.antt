@@ -13,7 +13,7 @@ use Rattle.tables.specs.Rows.{bit, recorded, RowOf}
 use Rattle.tables.specs.Words.{In, GoalOrTurn}
 use Rattle.tables.proofs.BitTests.{bit_inside}
 use Rattle.tables.proofs.RecordedStates.{length_recorded, recorded_at}
-use Rattle.tables.proofs.RowSigns.{Marks, marks_like, marks_all, marks_none, marks_both, marks_either, marks_not, marks_next, marks_until, until_all_is_some, never_not_is_every}
+use Rattle.tables.proofs.RowSigns.{Marks, marks_like, marks_all, marks_not, marks_next, marks_until, until_all_is_some, never_not_is_every}
 
 abbrev Always_true : ℕ → Type 0
 Always_true _ = Unit {0}
@@ -30,18 +30,6 @@ module _ (r : Run) (len back : ℕ) (long : length r.states ≡ len) (turn : r.b
 
   again : (f : Formula) → Again back (len - back) (Holds (endless r) f)
   again f = subst (λ n. Again back (n - back) (Holds (endless r) f)) long (subst (λ k. Again k (length r.states - k) (Holds (endless r) f)) turn (periodic r f))
-
-  pub row_true : (w : ℕ) → ((i : ℕ) → bit w i ≡ ltb i len) → RowOf r formula.True w
-  row_true w is = from Always_true w (marks_all len w is)
-
-  pub row_false : RowOf r formula.False 0
-  row_false = from (λ _. ⊥) 0 (marks_none len)
-
-  pub row_and : (a b : Formula) (v w u : ℕ) → RowOf r a v → RowOf r b w → ((i : ℕ) → bit u i ≡ (bit v i && bit w i)) → RowOf r (formula.And a b) u
-  row_and a b v w u = marks_both (length r.states) (Holds (endless r) a) (Holds (endless r) b) v w u
-
-  pub row_or : (a b : Formula) (v w u : ℕ) → RowOf r a v → RowOf r b w → ((i : ℕ) → bit u i ≡ (bit v i || bit w i)) → RowOf r (formula.Or a b) u
-  row_or a b v w u = marks_either (length r.states) (Holds (endless r) a) (Holds (endless r) b) v w u
 
   pub row_isn't : (p v u : ℕ) → RowOf r (formula.Is p) v → ((i : ℕ) → bit u i ≡ (ltb i len && not (bit v i))) → RowOf r (formula.Isn't p) u
   row_isn't p v u row is =

@@ -8,15 +8,9 @@ use Rattle.pltl.proofs.Positions.{until_weaker}
 use Rattle.tables.specs.Rows.{bit}
 use Rattle.tables.specs.Words.{In, GoalOrTurn}
 use Rattle.tables.proofs.BitTests.{bit_of_and, bit_of_or, bit_shr, bit_inside}
-use Rattle.tables.proofs.Sweeps.{Each, Soon, each_one, each_more, soon_one, soon_more, soon_is_until}
+use Rattle.tables.proofs.Sweeps.{Each, Soon, each_more, soon_more, soon_is_until}
 
 module _ (through goal : ℕ) where
-  pub found_first : (i : ℕ) → Decides (bit goal i) (Soon 1 (In through) (In goal) i)
-  found_first i = ((soon_one (In through) (In goal) i).1, (soon_one (In through) (In goal) i).0)
-
-  pub along_first : (i : ℕ) → Decides (bit through i) (Each 1 (In through) i)
-  along_first i = ((each_one (In through) i).1, (each_one (In through) i).0)
-
   module _ (reached along span : ℕ) (found : (i : ℕ) → Decides (bit reached i) (Soon span (In through) (In goal) i)) (all : (i : ℕ) → Decides (bit along i) (Each span (In through) i)) where
     pub found_doubled : (i : ℕ) → Decides (bit (bit_or reached (bit_and along (reached / 2 ^ span))) i) (Soon (span * 2) (In through) (In goal) i)
     found_doubled i =

@@ -6,7 +6,7 @@ use Rattle.pltl.specs.Formulas.{Tree}
 use Rattle.pltl.specs.Formulas as pltl
 use Rattle.texts.specs.declared.nodes.Node.{Node}
 use Rattle.texts.specs.declared.nodes.Node.TheVariants.{One, Zero, Letter, Not, Next, Always, Eventually, Until, Release, And, Or, Implies}
-use Rattle.pltl.proofs.Built.{length_built, built_push, built_stays, value_push, value_at, value_front}
+use Rattle.pltl.proofs.Built.{length_built, built_stays, value_push, value_at, value_front}
 use Rattle.texts.specs.Syntax.{tree_over, trees, tree_at, below, Ordered}
 
 pub ordered_push : (ns : List Node) (n : Node) → Ordered ns → below (length ns) n ≡ true → Ordered (ns ++ n ∷ [])
@@ -21,10 +21,6 @@ ordered_push ns n o b i lt =
 pub length_trees : (ns : List Node) → length (trees ns) ≡ length ns
 unfolding trees
 length_trees ns = omega (arith, length_built tree_over [] ns)
-
-pub trees_push : (ns : List Node) (n : Node) → trees (ns ++ n ∷ []) ≡ trees ns ++ tree_over (trees ns) n ∷ []
-unfolding trees
-trees_push = built_push tree_over
 
 -- more nodes leave the tree of each node as it was
 pub tree_stays : (ns ms : List Node) (i : ℕ) → i < length ns → get_or (trees (ns ++ ms)) i pltl.one ≡ get_or (trees ns) i pltl.one

@@ -1,6 +1,5 @@
 use Rattle.std.proofs.Common.{◌≡◌, true, [], ◌∷◌, ◌++◌, vec_items, sym, ap, ◌∙◌, subst, rules}
 use Rattle.std.proofs.lemmas.List.{map-append}
-use Rattle.std.proofs.lemmas.Bool.{cond-false}
 use Rattle.cases.specs.Roots.{none_twice, plain}
 use Rattle.cases.proofs.Noted.{none_twice_push}
 use Rattle.cases.proofs.roots.Roots.note.Goals as goal
