@@ -1,7 +1,8 @@
 -- Which files are accepted, and what stays of a buffer. Assumes nothing.
-use Rattle.std.specs.Prelude.{◌≡◌, ℕ, ◌-◌, ◌*◌, ◌<◌, ◌≤◌, Bool, true, false, ◌&&◌, List, length, drop, Ok, Err, Result, ℤ, pos, negsuc, ◌==◌, nat_le, nat_lt, slice_index, slice_index_or}
+use Rattle.std.specs.Prelude.{◌≡◌, ℕ, ◌-◌, ◌*◌, ◌<◌, ◌≤◌, Bool, true, false, ◌&&◌, List, length, drop, Ok, Err, Result, ℤ, pos, ◌==◌, nat_le, nat_lt, slice_index, slice_index_or}
 use Rattle.casefile.specs.declared.faults.SheetFault.{SheetFault}
 use Rattle.casefile.specs.declared.faults.SheetFault.TheVariants.{FileRefused, BufferTooShort, NoMemory}
+use Rattle.casefile.specs.Faults.{fault_number}
 use Rattle.casefile.specs.Newlines.{newlines}
 
 -- A file is not empty, has at most 32,000 bytes and 500 lines, and its last byte is 10.
@@ -19,25 +20,9 @@ pub record LinesEnd (file : List ℕ) : Type 0 where
   pub short : length file ≤ 32000
   pub ends : slice_index_or file (length file - 1) 0 ≡ 10
 
--- What is answered for a file and a buffer, which becomes another buffer: -22 exactly where the file is not accepted;
--- else -21 exactly where the buffer has less than 64 bytes a line; else -100 where memory is wanting; at each of these
--- the buffer is unchanged. Else a length within the buffer, past which nothing has changed.
-abbrev pub by_answer : List ℕ → List ℕ → ℤ → Type 0
-by_answer xs ys (pos n) = (n ≤ length xs) × Kept xs ys n
-by_answer xs ys (negsuc n) = (n ≡ 99) × (ys ≡ xs)
-
-abbrev pub by_buffer : Bool → List ℕ → List ℕ → ℤ → Type 0
-by_buffer true xs ys r = (r ≡ negsuc 20) × (ys ≡ xs)
-by_buffer false xs ys r = by_answer xs ys r
-
-abbrev pub by_file : Bool → List ℕ → List ℕ → List ℕ → ℤ → Type 0
-by_file true file xs ys r = by_buffer (nat_lt (length xs) (64 * newlines file)) xs ys r
-by_file false file xs ys r = (r ≡ negsuc 21) × (ys ≡ xs)
-
-abbrev pub Answered : List ℕ → List ℕ → List ℕ → ℤ → Type 0
-Answered file xs ys r = by_file (file_accepted file) file xs ys r
-
--- The same, by the sheet's length or the fault.
+-- What is answered for a file and a buffer, which becomes another buffer: the file is refused exactly where it is not
+-- accepted; else the buffer is too short exactly where it has less than 64 bytes a line; else there may be too little
+-- memory; at each of these the buffer is unchanged. Else a length within the buffer, past which nothing has changed.
 abbrev pub by_writing : List ℕ → List ℕ → Result ℕ SheetFault → Type 0
 by_writing xs ys (Ok n) = (n ≤ length xs) × Kept xs ys n
 by_writing xs ys (Err f) = (f ≡ NoMemory) × (ys ≡ xs)
@@ -52,3 +37,11 @@ by_acceptance false file xs ys r = (r ≡ Err FileRefused) × (ys ≡ xs)
 
 abbrev pub Written : List ℕ → List ℕ → List ℕ → Result ℕ SheetFault → Type 0
 Written file xs ys r = by_acceptance (file_accepted file) file xs ys r
+
+-- The same for a caller in C, by a number: the length, or -22, -21 or -100 for the fault.
+abbrev pub answer_number : Result ℕ SheetFault → ℤ
+answer_number (Ok n) = pos n
+answer_number (Err f) = fault_number f
+
+abbrev pub Answered : List ℕ → List ℕ → List ℕ → ℤ → Type 0
+Answered file xs ys n = (r : Result ℕ SheetFault) × (n ≡ answer_number r) × Written file xs ys r
