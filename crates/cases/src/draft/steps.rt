@@ -14,7 +14,7 @@ use super::super::faults::{CallFault, CaseFault};
 use super::super::verdict::Verdict;
 use super::{Case, MOST_STEPS};
 use arrayvec::ArrayVec;
-use kits::{Kit, Step};
+use kits::{Kit, KitFault, Step};
 use tables::{Number, Sequent};
 
 // The most premises that a step has.
@@ -43,8 +43,12 @@ impl<K: Kit + Drop> Case<K> {
             principal: step.principal,
             conclusion,
         };
-        self.kit.judge(&self.table, &read, &premises)?;
-        Ok(conclusion)
+        // An arm for each answer, and no `?`, so that an edit can turn one answer and leave the others.
+        match self.kit.judge(&self.table, &read, &premises) {
+            Ok(()) => Ok(conclusion),
+            Err(KitFault::Unknown) => Err(CallFault::Kit(KitFault::Unknown)),
+            Err(KitFault::NotAllowed) => Err(CallFault::Kit(KitFault::NotAllowed)),
+        }
     }
 
     // The conclusion of a step as a set, or what the case objects to the step before its kit is asked.
